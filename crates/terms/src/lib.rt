@@ -1,5 +1,6 @@
-// What everything is called: kinds, underlyings, marks, sides, refusals and bounds.
+// What everything is called: kinds, underlyings, marks, sides, commands, refusals and bounds.
 pub mod bounds;
+pub mod command;
 pub mod kind;
 pub mod mark;
 pub mod refusal;
