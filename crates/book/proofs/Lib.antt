@@ -1,0 +1,8 @@
+pub mod Equal
+pub mod Counts
+pub mod Posts
+pub mod Undo
+mod Shifts
+mod Tabled
+mod Grids
+mod Lists

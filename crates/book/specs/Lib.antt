@@ -1,0 +1,6 @@
+pub mod Tables
+pub mod Places
+pub mod Holding
+pub mod Listed
+pub mod Equal
+pub mod Soundness

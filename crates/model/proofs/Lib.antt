@@ -1,0 +1,5 @@
+pub mod Places
+pub mod Limits
+pub mod Quiet
+pub mod Rules
+pub mod Steps

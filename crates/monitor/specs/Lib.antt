@@ -1,0 +1,2 @@
+pub mod Modest
+pub mod View
