@@ -1,0 +1,5 @@
+pub mod Bounds
+pub mod Forms
+pub mod Names
+pub mod Shown
+pub mod Taken
