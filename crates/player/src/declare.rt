@@ -3,13 +3,13 @@ use crate::tally::Tally;
 use journal::fault::Fault;
 use journal::line::Line;
 use journal::reader::read;
-use opening::setup::Setup;
 use journal::shown::FaultDisplay;
+use opening::setup::Setup;
 use std::error::AnyError;
 use std::io::BufWriter;
 use std::io::Write;
 
-pub fn malformed<W: Write + Drop>(
+pub(crate) fn malformed<W: Write + Drop>(
     out: &mut BufWriter<W>,
     tally: &mut Tally,
     fault: Fault,
@@ -31,7 +31,7 @@ fn declared(setup: &mut Setup, line: &[u8]) -> Option<Result<(), Fault>> {
 }
 
 // Takes one line; what is printed of `open` is left to who opens.
-pub fn declare<W: Write + Drop>(
+pub(crate) fn declare<W: Write + Drop>(
     out: &mut BufWriter<W>,
     tally: &mut Tally,
     setup: &mut Setup,

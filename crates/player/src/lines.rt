@@ -6,13 +6,13 @@ use std::io::BufReader;
 use std::io::Read;
 
 #[derive(Drop)]
-pub struct Lines<R> {
+pub(crate) struct Lines<R> {
     input: BufReader<R>,
     line: Vec<u8>,
 }
 
 impl<R: Read + Drop> Lines<R> {
-    pub fn new(heap: Global, input: R) -> Lines<R> {
+    pub(crate) fn new(heap: Global, input: R) -> Lines<R> {
         Lines {
             input: BufReader::new(input),
             line: Vec::new(heap),
@@ -20,7 +20,7 @@ impl<R: Read + Drop> Lines<R> {
     }
 
     // Goes to the next line, without its line feed; false at the end of the input.
-    pub fn advance(&mut self) -> Result<bool, AnyError> {
+    pub(crate) fn advance(&mut self) -> Result<bool, AnyError> {
         self.line.clear();
         let read = self.input.read_until(b'\n', &mut self.line)?;
         if let Some(last) = self.line.last() {
@@ -31,7 +31,7 @@ impl<R: Read + Drop> Lines<R> {
         Ok(read > 0)
     }
 
-    pub fn line(&self) -> &[u8] {
+    pub(crate) fn line(&self) -> &[u8] {
         self.line.as_slice()
     }
 }

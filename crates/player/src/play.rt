@@ -13,8 +13,8 @@ use book::position::Book;
 use book::row::Row;
 use book::row::RowClone;
 use journal::line::Layout;
-use opening::setup::Setup;
 use monitor::state::Monitor;
+use opening::setup::Setup;
 use std::error::AnyError;
 use std::io::BufWriter;
 use std::io::Read;
@@ -104,7 +104,11 @@ pub fn play<R: Read + Drop>(rt: &LibcRuntime, input: R) -> Result<(), AnyError> 
                         key: 0,
                         value: 0i64
                     }; book.places]?;
-                    let mut list = List::new(&mut rows, narrow(book.entities), narrow(book.contracts));
+                    let mut list = List::new(
+                        &mut rows,
+                        narrow(book.entities),
+                        narrow(book.contracts),
+                    );
                     serve_all(&mut lines, &mut out, &mut tally, &setup, &mut list)?;
                 }
             }

@@ -50,7 +50,7 @@ fn ask<W: Write + Drop, B: Book>(
     Ok(())
 }
 
-pub fn serve<W: Write + Drop, B: Book>(
+pub(crate) fn serve<W: Write + Drop, B: Book>(
     out: &mut BufWriter<W>,
     tally: &mut Tally,
     monitor: &mut Monitor<B>,

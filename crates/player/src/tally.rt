@@ -1,7 +1,7 @@
 // What the last line counts.
 
 #[derive(Drop)]
-pub struct Tally {
+pub(crate) struct Tally {
     pub lines: u64,
     pub accepted: u64,
     pub refused: u64,
@@ -9,7 +9,7 @@ pub struct Tally {
 }
 
 impl Tally {
-    pub fn new() -> Tally {
+    pub(crate) fn new() -> Tally {
         Tally {
             lines: 0,
             accepted: 0,
@@ -18,11 +18,11 @@ impl Tally {
         }
     }
 
-    pub fn count_line(&mut self) {
+    pub(crate) fn count_line(&mut self) {
         self.lines = self.lines.saturating_add(1);
     }
 
-    pub fn count_call(&mut self, accepted: bool) {
+    pub(crate) fn count_call(&mut self, accepted: bool) {
         if accepted {
             self.accepted = self.accepted.saturating_add(1);
         } else {
@@ -30,7 +30,7 @@ impl Tally {
         }
     }
 
-    pub fn count_malformed(&mut self) {
+    pub(crate) fn count_malformed(&mut self) {
         self.malformed = self.malformed.saturating_add(1);
     }
 }
