@@ -1,6 +1,6 @@
 -- What a post answers and leaves, case by case.
 use mathlib.Core.Path.{_≡_, _∙_, ap, ap₂}
-use mathlib.Core.Bool.{true, false}
+use mathlib.Core.Bool.{true, false, not}
 use Prim.Native.Nat.{ℕ, _≤_}
 use native.Mathlib.Omega.{arith}
 use lib.IntN.{ℤ, _+ℤ_, natAbs}
@@ -27,12 +27,12 @@ module _ (b : Holding) (e c : ℕ) (z : ℤ) where
   pub reply-full : inside b e c ≡ true → small (b .at e c +ℤ z) ≡ true → blocked b e c z ≡ true → reply b e c z ≡ Err Full
   unfolding reply
   reply-full h s k =
-      cond-true (inside b e c) _ _ h ∙ (cond-true (small (b .at e c +ℤ z)) _ _ s ∙ cond-true (blocked b e c z) _ _ k)
+      cond-true (inside b e c) _ _ h ∙ (cond-true (small (b .at e c +ℤ z)) _ _ s ∙ cond-false (not (blocked b e c z)) _ _ (ap not k))
 
   pub reply-done : inside b e c ≡ true → small (b .at e c +ℤ z) ≡ true → blocked b e c z ≡ false → reply b e c z ≡ Ok (b .at e c +ℤ z)
   unfolding reply
   reply-done h s k =
-      cond-true (inside b e c) _ _ h ∙ (cond-true (small (b .at e c +ℤ z)) _ _ s ∙ cond-false (blocked b e c z) _ _ k)
+      cond-true (inside b e c) _ _ h ∙ (cond-true (small (b .at e c +ℤ z)) _ _ s ∙ cond-true (not (blocked b e c z)) _ _ (ap not k))
 
   -- a declined post changes nothing
   pub posted-declined : (x : Refusal) → reply b e c z ≡ Err x → posted b e c z ≡ b

@@ -61,15 +61,17 @@ unfoldable pub blocked : Holding → ℕ → ℕ → ℤ → Bool
 blocked b entity contract change =
     (isZero (b .at entity contract) && not (isZero change)) && leb (b .capacity) (count b)
 
--- what a post answers: the new quantity, or the first cause of Pair, Size and Full that holds
+-- an answer that asks a condition, and is a refusal without it
+abbrev pub given : Bool → Refusal → Result ℤ Refusal → Result ℤ Refusal
+given holds why answer = cond holds answer (Err why)
+
+-- what a post answers: the new quantity, or the first refusal from the top
 unfoldable pub reply : Holding → ℕ → ℕ → ℤ → Result ℤ Refusal
 reply b entity contract change =
-    let sum = b .at entity contract +ℤ change in
-    cond (inside b entity contract)
-    (cond (small sum)
-    (cond (blocked b entity contract change) (Err Full) (Ok sum))
-    (Err Size))
-    (Err Pair)
+    given (inside b entity contract) Pair
+    (given (small (b .at entity contract +ℤ change)) Size
+    (given (not (blocked b entity contract change)) Full
+    (Ok (b .at entity contract +ℤ change))))
 
 -- the quantities of f, but for one pair
 abbrev pub put : (ℕ → ℕ → ℤ) → ℕ → ℕ → ℤ → ℕ → ℕ → ℤ
@@ -101,7 +103,7 @@ pub record Sound (b : Holding) : Type 0 where
 
 -- the sum of a quantity and a change, unless it is too large
 abbrev pub sumOf : ℤ → ℤ → Result ℤ Refusal
-sumOf q change = cond (small (q +ℤ change)) (Ok (q +ℤ change)) (Err Size)
+sumOf q change = given (small (q +ℤ change)) Size (Ok (q +ℤ change))
 
 -- every pair is at zero
 abbrev pub blank : ℕ → ℕ → ℕ → Holding

@@ -14,7 +14,7 @@ use Rattle.text.specs.Words.{first, others}
 use Rattle.journal.specs.Forms.{full, placed, bookForm, formOf, readWords}
 use Rattle.journal.specs.Names.{named, verbs}
 use Rattle.journal.specs.Taken.{then}
-use Rattle.journal.specs.declared.fault.Fault.the-variants.{UnknownWord}
+use Rattle.replies.specs.declared.fault.Fault.the-variants.{UnknownWord}
 use Rattle.journal.specs.declared.line.Layout.{Layout}
 use Rattle.journal.specs.declared.line.Layout.the-variants as layout
 use Rattle.journal.specs.declared.names.Verb.{Verb}

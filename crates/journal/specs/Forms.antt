@@ -1,5 +1,5 @@
--- The forms of a line. A fault of the words that name the form comes first, then one of their number, then one of the other words
--- from left to right.
+-- The forms of a line. The first fault of a line is told, in this order: bytes that are no text; the words that name the form, which are
+-- the first one and, behind `book` and `ask`, the second; the number of the others; and each of these from left to right.
 use mathlib.Core.Bool.{cond}
 use mathlib.Core.List.{List, [], _∷_}
 use Prim.Native.Nat.{ℕ, _*_}
@@ -14,8 +14,8 @@ use Rattle.text.specs.Words.{isText, wordsOf, others}
 use Rattle.journal.specs.Bounds.{bookSide, bookPlaces}
 use Rattle.journal.specs.Names.{named, verbs, topics, layouts, underlyings, kinds}
 use Rattle.journal.specs.Taken.{then, counted, nextNumber, nextUnsigned, nextUpTo, nextNamed}
-use Rattle.journal.specs.declared.fault.Fault.{Fault}
-use Rattle.journal.specs.declared.fault.Fault.the-variants.{NotText, UnknownWord, NotYet, OutOfRange}
+use Rattle.replies.specs.declared.fault.Fault.{Fault}
+use Rattle.replies.specs.declared.fault.Fault.the-variants.{NotText, UnknownWord, NotYet, OutOfRange}
 use Rattle.journal.specs.declared.line.Declaration.the-variants as declaration
 use Rattle.journal.specs.declared.line.Layout.{Layout}
 use Rattle.journal.specs.declared.line.Layout.the-variants as layout
@@ -55,6 +55,10 @@ kindIn rows f ws = then (nextNamed rows ws) (λ x. f x (others ws))
 abbrev pub says : {X : Type 0} → X → Form X
 says x ws = Ok x
 
+-- a form of the format that is not yet available
+abbrev pub notYet : Form Line
+notYet ws = Err NotYet
+
 -- ENTITIES CONTRACTS PLACES
 abbrev pub placed : Layout → Form Line
 placed l =
@@ -65,32 +69,36 @@ placed l =
 abbrev pub full : Layout → Form Line
 full l =
     upTo bookSide (λ entities. upTo bookSide (λ contracts ws.
-    cond (leb (entities * contracts) bookPlaces) (Ok (Declare (declaration.Book (record { layout = l; entities = entities; contracts = contracts; places = entities * contracts })))) (Err OutOfRange)))
+    cond (leb (entities * contracts) bookPlaces)
+    (Ok (Declare (declaration.Book (record { layout = l; entities = entities; contracts = contracts; places = entities * contracts }))))
+    (Err OutOfRange)))
 
 -- the words behind `book grid` and `book list`
 abbrev pub bookForm : Layout → Form Line
 bookForm layout.Grid ws = cond (eqb (length ws) 2) (full layout.Grid ws) (placed layout.Grid ws)
 bookForm layout.List ws = placed layout.List ws
 
--- the words behind `ask` and what it asks for
+-- the words behind `ask quantity` and the other questions
 abbrev pub askForm : Topic → Form Line
 askForm topic.Quantity = exact 2 (index (λ entity. index (λ contract. says (Ask (question.Quantity entity contract)))))
-askForm topic.Later = λ ws. Err NotYet
+askForm topic.Later = notYet
 
 -- the words behind the first one
 abbrev pub formOf : Verb → Form Line
 formOf verb.Book = kindIn layouts bookForm
-formOf verb.Underlying = exact 1 (kindIn underlyings (λ u. says (Declare (declaration.Underlying u))))
-formOf verb.Contract = exact 2 (index (λ u. kindIn kinds (λ k. says (Declare (declaration.Contract (record { underlying = u; kind = k }))))))
-formOf verb.Limits = exact 2 (index (λ n. index (λ g. says (Declare (declaration.Limits (record { net = n; gross = g }))))))
+formOf verb.Underlying = exact 1 (kindIn underlyings (λ underlying. says (Declare (declaration.Underlying underlying))))
+formOf verb.Contract =
+    exact 2 (index (λ underlying. kindIn kinds (λ kind.
+    says (Declare (declaration.Contract (record { underlying = underlying; kind = kind }))))))
+formOf verb.Limits = exact 2 (index (λ net. index (λ gross. says (Declare (declaration.Limits (record { net = net; gross = gross }))))))
 formOf verb.Open = exact 0 (says (Declare declaration.Open))
-formOf verb.Post = exact 3 (index (λ e. index (λ c. signed (λ d. says (Call (command.Post e c d))))))
+formOf verb.Post = exact 3 (index (λ entity. index (λ contract. signed (λ change. says (Call (command.Post entity contract change))))))
 formOf verb.Entry =
-    exact 5 (index (λ t. index (λ m. index (λ p. index (λ c. signed (λ d.
-    says (Call (command.Entry t (record { member = m; participant = p; contract = c; change = d })))))))))
-formOf verb.Confirm = exact 1 (index (λ t. says (Call (command.Confirm t))))
+    exact 5 (index (λ ticket. index (λ member. index (λ participant. index (λ contract. signed (λ change.
+    says (Call (command.Entry ticket (record { member = member; participant = participant; contract = contract; change = change })))))))))
+formOf verb.Confirm = exact 1 (index (λ ticket. says (Call (command.Confirm ticket))))
 formOf verb.Ask = kindIn topics askForm
-formOf verb.Later = λ ws. Err NotYet
+formOf verb.Later = notYet
 
 -- a line's words
 abbrev pub readWords : Form Line

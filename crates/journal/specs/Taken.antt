@@ -10,8 +10,8 @@ use Rattle.std.specs.declared.result.Result.{Result}
 use Rattle.std.specs.declared.result.Result.the-variants.{Ok, Err}
 use Rattle.text.specs.Numbers.{numberOf}
 use Rattle.journal.specs.Names.{named}
-use Rattle.journal.specs.declared.fault.Fault.{Fault}
-use Rattle.journal.specs.declared.fault.Fault.the-variants.{UnknownWord, WordCount, NotNumber, OutOfRange}
+use Rattle.replies.specs.declared.fault.Fault.{Fault}
+use Rattle.replies.specs.declared.fault.Fault.the-variants.{UnknownWord, WordCount, NotNumber, OutOfRange}
 
 -- a negative number stands for the largest unsigned one, which is out of every range
 abbrev pub unsigned : ℤ → ℕ

@@ -4,7 +4,6 @@ ghost use Rattle.journal.specs.Forms.{full, placed, bookForm, askForm, formOf,
 ghost use Rattle.text.specs.Words.{toCome};
 use super::bounds::BOOK_PLACES;
 use super::bounds::BOOK_SIDE;
-use super::fault::Fault;
 use super::line::Book;
 use super::line::Declaration;
 use super::line::Layout;
@@ -13,6 +12,7 @@ use super::line::Line;
 use super::line::Question;
 use super::names::*;
 use super::taken::*;
+use replies::fault::Fault;
 use terms::command::Command;
 use terms::command::Trade;
 use terms::kind::Contract;

@@ -2,8 +2,8 @@
 ghost use mathlib.Core.Path.{_≡_};
 ghost use Rattle.journal.specs.Taken.{counted, nextNumber, unsigned, nextUnsigned, ranged, nextUpTo, nextNamed};
 ghost use Rattle.text.specs.Words.{toCome, others};
-use super::fault::Fault;
 use super::names::Named;
+use replies::fault::Fault;
 use text::number::number;
 use text::words::Words;
 

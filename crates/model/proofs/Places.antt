@@ -12,10 +12,10 @@ use Rattle.std.specs.declared.result.Result.{Result}
 use Rattle.std.specs.declared.result.Result.the-variants.{Ok, Err}
 use Rattle.terms.specs.declared.refusal.Refusal.{Refusal}
 use Rattle.model.specs.Causes.{Verdict, causeIn}
-use Rattle.model.specs.Opening.{termsOf}
+use Rattle.model.specs.Opening.{Terms, termsOf}
 use Rattle.model.specs.State.{State, opened}
-use Rattle.model.specs.Calls.{Call, verdict, number, done, decided, step}
-use Rattle.model.specs.Runs.{Run, before, after, next, refusalOf, refusalAt, outcomeFrom}
+use Rattle.model.specs.Calls.{Call, verdict, number, effect, done, decided, step}
+use Rattle.model.specs.Runs.{Run, before, after, next, refusalOf, refusalAt, outcomeFrom, Accepted}
 use Rattle.model.specs.Handbook.{Outcomes, GoesOn, DeclinedChangesNothing, TermsStay}
 
 -- ---- the outcome of the calls before a place
@@ -56,6 +56,20 @@ outcome-join s (c ∷ cs) ds = outcome-join (step s c .1) cs ds
 pub goes-on : GoesOn
 goes-on r more = outcome-join (opened (r .opening)) (r .calls) more
 
+-- ---- an accepted call
+
+taken : (v : Verdict) (n : ℤ) (old new : State) → causeIn (decided v n old new .0) ≡ None → decided v n old new .1 ≡ new
+taken (Ok ok) n old new e = refl
+taken (Err why) n old new e = let z : _≡_ {A = ℕ} 0 1 = cc in absurd (omega arith)
+
+pub after-state : (r : Run) (k : ℕ) (c : Call) → Accepted r k c → after r k ≡ done (before r k) c
+after-state r k c a =
+    ap (next s) (a .holds)
+    ∙ taken (verdict (s .terms) (s .ledger) c) (number s c) s (done s c) (sym (ap (refusalOf s) (a .holds)) ∙ a .passed)
+  where
+    s : State
+    s = before r k
+
 -- ---- a declined call, and what is fixed
 
 left : (v : Verdict) (n : ℤ) (old new : State) (why : Refusal) → causeIn (decided v n old new .0) ≡ Some why → decided v n old new .1 ≡ old
@@ -80,3 +94,7 @@ next-terms s (Some c) = same-terms (verdict (s .terms) (s .ledger) c) (number s 
 pub terms-stay : TermsStay
 terms-stay r zero = refl
 terms-stay r (suc k) = next-terms (before r k) (nth (r .calls) k) ∙ terms-stay r k
+
+-- what an accepted call makes of the ledger
+pub after-accepted : (r : Run) (k : ℕ) (c : Call) → Accepted r k c → after r k .ledger ≡ effect (termsOf (r .opening) .listing) (before r k .ledger) c
+after-accepted r k c a = ap (λ (s : State). s .ledger) (after-state r k c a) ∙ ap (λ (t : Terms). effect (t .listing) (before r k .ledger) c) (terms-stay r k)

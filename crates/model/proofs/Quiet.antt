@@ -15,9 +15,10 @@ use Rattle.terms.specs.declared.command.Trade.{Trade}
 use Rattle.terms.specs.declared.refusal.Refusal.{Refusal}
 use Rattle.book.specs.Holding.{Holding, reply, posted, settle}
 use Rattle.model.specs.Causes.{Verdict}
+use Rattle.model.specs.Opening.{Listing}
 use Rattle.model.specs.State.{State, Ledger}
 use Rattle.model.specs.Custody.{offMember, transferred}
-use Rattle.model.specs.Calls.{Call, post, entry, confirm, ticketAt, confirmed, verdict, number, effect, done, decided}
+use Rattle.model.specs.Calls.{Call, post, entry, confirm, setLimit, close, ticketAt, confirmed, verdict, number, effect, done, decided}
 use Rattle.model.specs.Runs.{Run, before, next, isPair, inTrade, postsTo, postedAt}
 use Rattle.model.specs.Handbook.{OnlyPostingsMove}
 
@@ -45,13 +46,15 @@ confirmed-other b (Some d) i j h =
     posted-other (offMember b d) (d .participant) (d .contract) (d .change) i j (or-right m p h)
     ∙ posted-other b (d .member) (d .contract) (negℤ (d .change)) i j (or-left m p h)
 
-effect-other : (l : Ledger) (c : Call) (i j : ℕ) → postsTo l c i j ≡ false → effect l c .book .at i j ≡ l .book .at i j
-effect-other l (post e c x) i j h = posted-other (l .book) e c x i j h
-effect-other l (entry k d) i j h = posted-other (l .book) (d .member) (d .contract) (d .change) i j h
-effect-other l (confirm k) i j h = confirmed-other (l .book) (ticketAt l k) i j h
+effect-other : (w : Listing) (l : Ledger) (c : Call) (i j : ℕ) → postsTo l c i j ≡ false → effect w l c .book .at i j ≡ l .book .at i j
+effect-other w l (post e c x) i j h = posted-other (l .book) e c x i j h
+effect-other w l (entry k d) i j h = posted-other (l .book) (d .member) (d .contract) (d .change) i j h
+effect-other w l (confirm k) i j h = confirmed-other (l .book) (ticketAt l k) i j h
+effect-other w l (setLimit u f ds) i j h = refl
+effect-other w l (close u two d) i j h = refl
 
 decided-other : (v : Verdict) (n : ℤ) (s : State) (c : Call) (i j : ℕ) → postsTo (s .ledger) c i j ≡ false → s .ledger .book .at i j ≡ decided v n s (done s c) .1 .ledger .book .at i j
-decided-other (Ok ok) n s c i j h = sym (effect-other (s .ledger) c i j h)
+decided-other (Ok ok) n s c i j h = sym (effect-other (s .terms .listing) (s .ledger) c i j h)
 decided-other (Err why) n s c i j h = refl
 
 next-other : (s : State) (x : Option Call) (i j : ℕ) → postedAt (s .ledger) x i j ≡ false → s .ledger .book .at i j ≡ next s x .ledger .book .at i j

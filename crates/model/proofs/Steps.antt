@@ -44,13 +44,13 @@ let-in : (s : State) (v : Verdict) → true ≡ isOpen (s .terms) → unless (cl
 let-in s v e = ap (λ (b : Bool). cond (not b) (Err Closed) v) (sym e)
 
 pub step-closed : (s : State) (c : Call) → false ≡ isOpen (s .terms) → (Err Closed, s) ≡ step s c
-step-closed s c e = step-err s c Closed (ap (λ (b : Bool). cond (not b) (Err Closed) (ofCall (s .ledger) c)) (sym e))
+step-closed s c e = step-err s c Closed (ap (λ (b : Bool). cond (not b) (Err Closed) (ofCall (s .terms .listing) (s .ledger) c)) (sym e))
 
 -- ---- post
 
 module _ (s : State) (open-now : true ≡ isOpen (s .terms)) where
-  verdict-is : (c : Call) → verdict (s .terms) (s .ledger) c ≡ ofCall (s .ledger) c
-  verdict-is c = let-in s (ofCall (s .ledger) c) open-now
+  verdict-is : (c : Call) → verdict (s .terms) (s .ledger) c ≡ ofCall (s .terms .listing) (s .ledger) c
+  verdict-is c = let-in s (ofCall (s .terms .listing) (s .ledger) c) open-now
 
   post-by : (e c : ℕ) (x : ℤ) (r : Answer) → reply (s .ledger .book) e c x ≡ r → (r, record { terms = s .terms; ledger = withBook (s .ledger) (settle (s .ledger .book) e c r); marks = s .marks }) ≡ step s (post e c x)
   unfolding posted
@@ -64,23 +64,37 @@ module _ (s : State) (open-now : true ≡ isOpen (s .terms)) where
   unfolding posted
   step-post e c x = post-by e c x (reply (s .ledger .book) e c x) refl
 
+-- ---- a call whose causes are a table and then a rest
+
+module _ (s : State) (c : Call) (table : List (Bool × Refusal)) (rest : Verdict) (is : verdict (s .terms) (s .ledger) c ≡ unless table rest) where
+  -- declined by the table
+  pub by-table : (why : Refusal) → unless table (Ok tt) ≡ Err why → (Err why, s) ≡ step s c
+  by-table why h = step-err s c why (is ∙ unless-err table rest why h)
+
+  -- let through by the table and declined by the rest
+  pub by-rest : (why : Refusal) → unless table (Ok tt) ≡ Ok tt → rest ≡ Err why → (Err why, s) ≡ step s c
+  by-rest why h r = step-err s c why (is ∙ unless-ok table rest h ∙ r)
+
+  -- let through
+  pub by-none : unless table (Ok tt) ≡ Ok tt → rest ≡ Ok tt → (Ok (number s c), done s c) ≡ step s c
+  by-none h r = step-ok s c (is ∙ unless-ok table rest h ∙ r)
+
 -- ---- entry
 
 module _ (s : State) (k : ℕ) (d : Trade) where
+  abbrev entryCauses : List (Bool × Refusal)
+  entryCauses = (not (isOpen (s .terms)), Closed) ∷ entryTable (s .ledger) k d
+
+  abbrev entryReply : Answer
+  entryReply = reply (s .ledger .book) (d .member) (d .contract) (d .change)
+
   -- declined before the book is asked
   pub entry-refused : (why : Refusal) → unless ((not (isOpen (s .terms)), Closed) ∷ entryTable (s .ledger) k d) (Ok tt) ≡ Err why → (Err why, s) ≡ step s (entry k d)
-  entry-refused why h =
-      step-err s (entry k d) why (unless-err ((not (isOpen (s .terms)), Closed) ∷ entryTable (s .ledger) k d) (verdictOf (reply (s .ledger .book) (d .member) (d .contract) (d .change))) why h)
-
-  entry-verdict : unless ((not (isOpen (s .terms)), Closed) ∷ entryTable (s .ledger) k d) (Ok tt) ≡ Ok tt → verdict (s .terms) (s .ledger) (entry k d) ≡ verdictOf (reply (s .ledger .book) (d .member) (d .contract) (d .change))
-  entry-verdict h = unless-ok ((not (isOpen (s .terms)), Closed) ∷ entryTable (s .ledger) k d) (verdictOf (reply (s .ledger .book) (d .member) (d .contract) (d .change))) h
+  entry-refused = by-table s (entry k d) entryCauses (verdictOf entryReply) refl
 
   -- declined by the book
   pub entry-declined : (why : Refusal) → unless ((not (isOpen (s .terms)), Closed) ∷ entryTable (s .ledger) k d) (Ok tt) ≡ Ok tt → reply (s .ledger .book) (d .member) (d .contract) (d .change) ≡ Err why → (Err why, s) ≡ step s (entry k d)
-  entry-declined why h r = step-err s (entry k d) why (entry-verdict h ∙ ap verdictOf r)
-
-  pub entry-done : (q : ℤ) → unless ((not (isOpen (s .terms)), Closed) ∷ entryTable (s .ledger) k d) (Ok tt) ≡ Ok tt → reply (s .ledger .book) (d .member) (d .contract) (d .change) ≡ Ok q → (Ok q, done s (entry k d)) ≡ step s (entry k d)
-  entry-done q h r = ap (λ (a : Answer). (Ok (numberIn a), done s (entry k d))) (sym r) ∙ step-ok s (entry k d) (entry-verdict h ∙ ap verdictOf r)
+  entry-declined why h r = by-rest s (entry k d) entryCauses (verdictOf entryReply) refl why h (ap verdictOf r)
 
 -- ---- confirmation
 

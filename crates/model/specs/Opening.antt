@@ -63,9 +63,13 @@ isFuture Put = false
 abbrev pub isListed : List Underlying → ℕ → Bool
 isListed us u = ltb u (length us)
 
+-- the underlying is a stock
+abbrev pub isStockAt : List Underlying → ℕ → Bool
+isStockAt us u = isStock (getD us u Index)
+
 -- a contract names a listed underlying, and is no future on an index
 abbrev pub soundContract : List Underlying → Contract → Bool
-soundContract us c = isListed us (c .underlying) && not (isFuture (c .kind) && not (isStock (getD us (c .underlying) Index)))
+soundContract us c = isListed us (c .underlying) && not (isFuture (c .kind) && not (isStockAt us (c .underlying)))
 
 abbrev pub allSound : List Underlying → List Contract → Bool
 allSound us [] = true

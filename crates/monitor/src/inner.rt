@@ -2,12 +2,12 @@
 use model::parts::Day;
 use model::parts::Four;
 use model::parts::MarkRow;
+use stock::base::Base;
 use terms::command::Trade;
 
 #[derive(Drop)]
 pub struct Inner {
-    // The base quantity of each pair, 32 to an entity.
-    pub(crate) base: [i64; 4096],
+    pub(crate) base: Base,
     pub(crate) tickets: [Option<Trade>; 16],
     // By underlying.
     pub(crate) days: [Day; 4],

@@ -3,8 +3,12 @@ ghost use mathlib.Core.Path.{_≡_};
 ghost use Prim.Native.Nat.{ℕ};
 ghost use denote.Ref.{name, now as behind};
 ghost use Rattle.model.specs.Opening.{inRange, soundContract, allSound, listingFrom, termsFrom, openingFrom, isOpen};
-ghost use Rattle.model.specs.State.{opened};
-ghost use Rattle.monitor.specs.View.{stateOf, fixedOf, newInner};
+ghost use Rattle.book.specs.Holding.{Holding};
+ghost use Rattle.terms.specs.Bounds.{ticketCount};
+ghost use Rattle.std.specs.declared.option.Option.the-variants.{None};
+ghost use lib.ListN.{replicate};
+ghost use Rattle.model.specs.State.{opened, newLedger, noRow};
+ghost use Rattle.monitor.specs.View.{stateOf, fixedOf, ledgerOf, marksOf};
 use crate::fixed::Fixed;
 use crate::inner::Inner;
 use crate::state::Monitor;
@@ -12,6 +16,7 @@ use book::position::Book;
 use model::parts::Day;
 use model::parts::Four;
 use model::parts::MarkRow;
+use stock::base::Base;
 use terms::bounds::AMOUNT_BOUND;
 use terms::bounds::MOST_CONTRACTS;
 use terms::bounds::MOST_ENTITIES;
@@ -20,7 +25,7 @@ use terms::kind::Contract;
 use terms::kind::Kind;
 use terms::kind::Underlying;
 
-fn in_range(low: u64, high: u64, n: u64) -> bool
+pub(crate) fn in_range(low: u64, high: u64, n: u64) -> bool
     ensures { λ r. ⌜ r ≡ inRange low high n ⌝ }
 {
     low <= n && n <= high
@@ -104,7 +109,9 @@ impl<'t> Fixed<'t> {
 impl Inner {
     // No bans, marks or tickets, and every base quantity at zero.
     fn new() -> Inner
-        ensures { λ r. ⌜ r ≡ newInner ⌝ }
+        ensures ledger { λ r. ⌜ ((b : Holding) → ledgerOf b r ≡ newLedger b) ⌝ }
+        ensures marks { λ r. ⌜ marksOf (r .marks) ≡ (λ u e m. noRow) ⌝ }
+        ensures tickets { λ r. ⌜ r .tickets ≡ replicate ticketCount None ⌝ }
     {
         let day = Day {
             taken: 0,
@@ -125,7 +132,7 @@ impl Inner {
             gross_short: row,
         };
         Inner {
-            base: [0i64; 4096],
+            base: Base::new(),
             tickets: [None; 16],
             days: [day; 4],
             limits: [None; 4],

@@ -6,8 +6,8 @@ use lib.Dec.{ltb}
 use lib.ListN.{length, take}
 use Rattle.std.specs.declared.result.Result.{Result}
 use Rattle.std.specs.declared.result.Result.the-variants.{Ok, Err}
-use Rattle.journal.specs.declared.fault.Fault.{Fault}
-use Rattle.journal.specs.declared.fault.Fault.the-variants.{TooMany}
+use Rattle.replies.specs.declared.fault.Fault.{Fault}
+use Rattle.replies.specs.declared.fault.Fault.the-variants.{TooMany}
 use Rattle.opening.specs.declared.roster.Roster.{Roster}
 
 -- the values, in the order in which they were added

@@ -10,8 +10,8 @@ use Rattle.terms.specs.declared.kind.Contract.{Contract}
 use Rattle.terms.specs.declared.kind.Underlying.{Underlying}
 use Rattle.opening.specs.Bounds.{declaredUnderlyings, declaredContracts}
 use Rattle.opening.specs.Rosters.{listed, roomFor}
-use Rattle.journal.specs.declared.fault.Fault.{Fault}
-use Rattle.journal.specs.declared.fault.Fault.the-variants.{AfterOpen, Twice, NothingToOpen, NotOpened}
+use Rattle.replies.specs.declared.fault.Fault.{Fault}
+use Rattle.replies.specs.declared.fault.Fault.the-variants.{AfterOpen, Twice, NothingToOpen, NotOpened}
 use Rattle.journal.specs.declared.line.Book.{Book}
 use Rattle.journal.specs.declared.line.Declaration.{Declaration}
 use Rattle.journal.specs.declared.line.Declaration.the-variants as declaration
@@ -42,7 +42,7 @@ first o = cond (isSome o) (Err Twice) (Ok tt)
 abbrev pub readyToOpen : Sheet → Result (Unit {0}) Fault
 readyToOpen s = cond (isSome (s .book) && isSome (s .limits)) (Ok tt) (Err NothingToOpen)
 
--- what a declaration is answered
+-- what a declaration is answered before `open`
 abbrev pub admitted : Sheet → Declaration → Result (Unit {0}) Fault
 admitted s (declaration.Book b) = first (s .book)
 admitted s (declaration.Underlying u) = roomFor declaredUnderlyings (s .underlyings)
@@ -50,6 +50,7 @@ admitted s (declaration.Contract c) = roomFor declaredContracts (s .contracts)
 admitted s (declaration.Limits l) = first (s .limits)
 admitted s declaration.Open = readyToOpen s
 
+-- after `open` there is no declaration
 abbrev pub answered : Sheet → Declaration → Result (Unit {0}) Fault
 answered s d = cond (s .opened) (Err AfterOpen) (admitted s d)
 

@@ -2,16 +2,15 @@
 ghost use mathlib.Core.Bool.{cond};
 ghost use mathlib.Core.Path.{_≡_};
 ghost use Rattle.std.specs.Results.{isOk};
-ghost use Rattle.std.specs.Options.{isSome};
 ghost use Rattle.std.specs.declared.option.Option.the-variants.{Some};
-ghost use Rattle.opening.specs.Sheets.{Sheet, sheetOf, emptySheet, first, readyToOpen, answered, noted, readiness};
+ghost use Rattle.opening.specs.Sheets.{sheetOf, emptySheet, first, readyToOpen, answered, noted, readiness};
 use super::bounds::DECLARED_CONTRACTS;
 use super::bounds::DECLARED_UNDERLYINGS;
 use super::roster::Roster;
-use journal::fault::Fault;
 use journal::line::Book;
 use journal::line::Declaration;
 use journal::line::Limits;
+use replies::fault::Fault;
 use terms::kind::Contract;
 use terms::kind::Kind;
 use terms::kind::Underlying;

@@ -30,3 +30,10 @@ amountBound = 100000000000000
 -- the largest price, in paise
 abbrev pub priceBound : ℕ
 priceBound = 100000000
+
+-- the minute of the two o'clock deltas, and that of a close, from midnight
+abbrev pub twoMinute : ℕ
+twoMinute = 840
+
+abbrev pub closeMinute : ℕ
+closeMinute = 930

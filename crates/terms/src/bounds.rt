@@ -21,3 +21,8 @@ pub const AMOUNT_BOUND: u64 = 100_000_000_000_000;
 
 // The largest price, in paise: a price is 1 to this.
 pub const PRICE_BOUND: u64 = 100_000_000;
+
+// The minute of the two o'clock deltas, and that of a close, from midnight.
+pub const TWO_MINUTE: u64 = 840;
+
+pub const CLOSE_MINUTE: u64 = 930;

@@ -11,11 +11,11 @@ ghost use Rattle.text.specs.Words.{unreturned, wordsOf, toCome, first, others,
 // The kinds of bytes that a scan passes over.
 #[derive(Clone, Copy)]
 enum Class {
-    // all but the sign that starts a comment
+    // All but the sign that starts a comment.
     Plain,
-    // what separates words
+    // What separates words.
     Blank,
-    // what words are made of
+    // What words are made of.
     Solid,
 }
 
@@ -70,6 +70,7 @@ pub struct Words<'a> {
 }
 
 impl<'a> Words<'a> {
+    // All the words of the line.
     pub fn new(line: &'a [u8]) -> Words<'a>
         ensures { λ r. ⌜ toCome r ≡ wordsOf (now (line .entry)) ⌝ }
     {

@@ -5,7 +5,7 @@ ghost use mathlib.Core.Path.{_≡_};
 ghost use Rattle.std.specs.Results.{isOk};
 ghost use Rattle.opening.specs.Rosters.{listed, roomFor};
 use super::Roster;
-use journal::fault::Fault;
+use replies::fault::Fault;
 
 impl<T: Copy, const N: usize> Roster<T, N> {
     // An empty list; the filler is never seen.

@@ -11,6 +11,6 @@ use Rattle.monitor.proofs.state.Monitor.confirm.Needs as need
 
 pub ghost-self-in-Some : need.ghost-self-in-Some
 ghost-self-in-Some g c = (
-  c .args .self .now .bounded,
-  ((λ k. subst (λ (t : ℕ → Option Trade). T (modest (t k))) (sym (c .write-ticket .ensures)) (everywhere-at (λ (o : Option Trade). T (modest o)) (c .args .ticket) None (ticketsOf (c .args .self .now .inner .tickets)) (c .args .self .now .modest) tt k)), tt),
+  (λ k. subst (λ (t : ℕ → Option Trade). T (modest (t k))) (sym (c .write-ticket .ensures)) (everywhere-at (λ (o : Option Trade). T (modest o)) (c .args .ticket) None (ticketsOf (c .args .self .now .inner .tickets)) (c .args .self .now .modest) tt k)),
+  tt,
 )

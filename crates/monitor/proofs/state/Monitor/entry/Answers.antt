@@ -57,6 +57,6 @@ ghost-self-2 g c =
     let f : SFits w64 (d .change) = search needs in
     let r = sym (c .in-Continue-quantity .ensures tt .answer ∙ ap (reply (s .ledger .book) (d .member) (d .contract)) (toZ-ofZ w64 (d .change) f)) in
     let m : T (modest (Some d)) = le→leb (natAbs (d .change)) (2 * quantityBound) (change-small (s .ledger .book) (d .member) (d .contract) (d .change) _ (g .B·Holds .sound (c .args .self .now .book .now)) r) in (
-      c .args .self .now .bounded,
-      ((λ k. subst (λ (t : ℕ → Option Trade). T (modest (t k))) (sym (c .write-ticket .ensures)) (everywhere-at (λ (o : Option Trade). T (modest o)) (c .args .ticket) (Some d) (s .ledger .tickets) (c .args .self .now .modest) m k)), tt),
+      (λ k. subst (λ (t : ℕ → Option Trade). T (modest (t k))) (sym (c .write-ticket .ensures)) (everywhere-at (λ (o : Option Trade). T (modest o)) (c .args .ticket) (Some d) (s .ledger .tickets) (c .args .self .now .modest) m k)),
+      tt,
     )

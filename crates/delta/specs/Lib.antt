@@ -1,0 +1,5 @@
+pub mod Sources
+pub mod Makes
+pub mod Told
+pub mod Mixing
+pub mod Lawfulness

@@ -1,0 +1,5 @@
+pub mod Sums
+pub mod Sizes
+pub mod Turns
+pub mod Firsts
+pub mod Sheets

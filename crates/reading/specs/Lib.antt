@@ -1,0 +1,5 @@
+pub mod Sums
+pub mod Readings
+pub mod Missing
+pub mod Sheets
+pub mod Views
