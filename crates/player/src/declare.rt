@@ -1,9 +1,9 @@
 // The lines before the monitor is open.
 use crate::tally::Tally;
-use journal::fault::Fault;
+use replies::fault::Fault;
 use journal::line::Line;
 use journal::reader::read;
-use journal::shown::FaultDisplay;
+use replies::fault::FaultDisplay;
 use opening::setup::Setup;
 use std::error::AnyError;
 use std::io::BufWriter;
