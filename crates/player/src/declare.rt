@@ -1,10 +1,10 @@
 // The lines before the monitor is open.
 use crate::tally::Tally;
-use replies::fault::Fault;
 use journal::line::Line;
 use journal::reader::read;
-use replies::fault::FaultDisplay;
 use opening::setup::Setup;
+use replies::fault::Fault;
+use replies::fault::FaultDisplay;
 use std::error::AnyError;
 use std::io::BufWriter;
 use std::io::Write;
