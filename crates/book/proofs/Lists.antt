@@ -95,7 +95,7 @@ proper_some : (z : ℤ) → small z ≡ true → is_zero z ≡ false → T (prop
 proper_some z h k = subst T (sym (and_from (small z) (not (is_zero z)) h (ap not k))) tt
 
 proper_put : (f : ℕ → Option ℤ) (key : ℕ) (w : Option ℤ) → T (proper w) → ((k : ℕ) → T (proper (f k))) → (k : ℕ) → T (proper (update eqb f key w k))
-proper_put f key w h g k = cond_both (eqb k key) w (f k) (λ o. T (proper o)) (λ _. h) (λ _. g k)
+proper_put f key w h g k = cond_both (eqb key k) w (f k) (λ o. T (proper o)) (λ _. h) (λ _. g k)
 
 -- what a list keeps of its table, at an equal one
 keeps : (e c : ℕ) (t t' : Table ℤ) → t' ≡ t → Proper t → t.size ≡ listed_count e c t → Proper t' × (t'.size ≡ listed_count e c t')

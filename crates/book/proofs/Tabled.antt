@@ -1,5 +1,5 @@
 -- The rows in use as a table: what finding, replacing, putting in and taking out a row mean.
-use Rattle.std.proofs.Common.{◌≡◌, ℕ, zero, suc, ◌+◌, ◌-◌, ◌<◌, ◌≤◌, true, false, cond, eqb, ltb, ◌≢◌, ◌⊎◌, List, [], ◌∷◌, ◌++◌, length, get_or, take, drop, set, is_some, Some, None, Ok, Err, Option, sym, refl, ap, ◌∙◌, subst, ap₂, ⊎_elim, arith}
+use Rattle.std.proofs.Common.{◌≡◌, ℕ, zero, suc, ◌+◌, ◌-◌, ◌<◌, ◌≤◌, Bool, true, false, cond, eqb, ltb, ◌≢◌, ◌⊎◌, List, [], ◌∷◌, ◌++◌, length, get_or, take, drop, set, is_some, Some, None, Ok, Err, Option, sym, refl, ap, ◌∙◌, subst, ap₂, ⊎_elim, arith}
 use mathlib.Core.Path.{fun_ext}
 use native.Mathlib.Nat.{sub-zero}
 use Rattle.std.specs.List.Sorted.{IsStrictlyIncreasing}
@@ -7,14 +7,15 @@ use Rattle.std.specs.List.{insert, remove as without}
 use Rattle.std.specs.Map.{lookup, update}
 use Rattle.std.proofs.lemmas.List.Edits.{length-insert, get_or-insert_below, get_or-insert_at, get_or-insert_above, length-remove, get_or-remove_below, get_or-remove_above}
 use Rattle.std.proofs.lemmas.List.{get_or-map, length-map, length-set, take-map, drop-map, map-set, set-get_or, map-append, length-drop, get_or-drop}
-use Rattle.std.proofs.lemmas.Map.{Hit, Missing, lookup-missing, lookup-hit, lookup-set, lookup-insert, lookup-remove}
+use Rattle.std.proofs.lemmas.Cmp.{nat_eq_equiv}
+use Rattle.std.proofs.lemmas.Map.{NonePasses, lookup-none, lookup-insert}
 use Rattle.std.proofs.lemmas.Bool.{cases_eq, cases_lt, cases_Bool, eq-eqb, ne_eqb, eqb-true, cond-true, cond-false, lt-ltb, le-ltb}
 use Rattle.std.proofs.lemmas.Bool.Decides.{nat_tests}
 use Rattle.terms.specs.declared.refusal.Refusal.TheVariants.{Full}
 use Rattle.book.specs.declared.register.Places.{Places}
 use Rattle.book.specs.declared.row.Row.{Row}
 use Rattle.book.specs.Places.{table, Ordered, Edited}
-use Rattle.book.specs.Tables.{Table, keys, values, tabled, put_reply, put_into, putted, removed, Found, Gap}
+use Rattle.book.specs.Tables.{Table, keys, values, entries, tabled, put_reply, put_into, putted, removed, Found, Gap}
 use Rattle.book.proofs.Shifts.{climbs_far}
 
 -- ---- what a lower bound tells, over the part `0..len`
@@ -54,31 +55,74 @@ module _ {V : Type 0} (rows : List (Row V)) (len key at : ℕ) where
               (cases_eq k at)
 
 -- ---- a key by its place
-hit_at : (ks : List ℕ) (k i : ℕ) → ((j : ℕ) → j < i → get_or ks j 0 ≢ k) → i < length ks → get_or ks i 0 ≡ k → Hit eqb k ks i
-hit_at [] k i apart l e = absurd (omega arith)
-hit_at (x ∷ xs) k zero apart l e = eq-eqb k x (sym e)
-hit_at (x ∷ xs) k (suc i) apart l e =
-    (ne_eqb k x (λ s. apart 0 (omega arith) (sym s)), hit_at xs k i (λ j h. apart (suc j) (omega arith)) (omega arith) e)
-
-missing_at : (ks : List ℕ) (k : ℕ) → ((j : ℕ) → j < length ks → get_or ks j 0 ≢ k) → Missing eqb k ks
-missing_at [] k apart = tt
-missing_at (x ∷ xs) k apart =
-    (ne_eqb k x (λ s. apart 0 (omega arith) (sym s)), missing_at xs k (λ j h. apart (suc j) (omega arith)))
-
-missing_after : (ks : List ℕ) (key at : ℕ) → IsStrictlyIncreasing ks → at < length ks → get_or ks at 0 ≡ key → Missing eqb key (drop (suc at) ks)
-missing_after ks key at up l e =
-    missing_at (drop (suc at) ks) key
-    (λ j h s.
-    let n = length-drop (suc at) ks in
-    let d = get_or-drop (suc at) ks j 0 in
-    let c = climbs_far ks up at (suc at + j) (omega arith) (omega arith) in
-    omega arith)
-
 flip : (x y : ℕ) → eqb x y ≡ eqb y x
 flip x y = grind (arith, nat_tests)
 
-alike : (x y z : ℕ) → eqb x y ≡ true → eqb x z ≡ eqb y z
-alike x y z h = ap (λ n. eqb n z) (eqb-true x y h)
+apart_first : (key first q : ℕ) → first ≢ key → eqb key q ≡ true → eqb q first ≡ false
+apart_first key first q n h = ne_eqb q first (λ s. n (sym s ∙ sym (eqb-true key q h)))
+
+module _ {V : Type 0} where
+  -- a key stands at none of the first places
+  abbrev Apart : List (Row V) → ℕ → ℕ → Type 0
+  Apart rows key at = (j : ℕ) → j < at → get_or (keys rows) j 0 ≢ key
+
+  hit_at : (rows : List (Row V)) (key at : ℕ) (v : V) → Apart rows key at → at < length rows → get_or (keys rows) at 0 ≡ key → v ≡ get_or (values rows) at v → Some v ≡ lookup (eqb key) (entries rows)
+  hit_at [] key at v apart l e f = absurd (omega arith)
+  hit_at (r ∷ rows) key zero v apart l e f = ap Some f ∙ sym (cond-true (eqb key r.key) _ _ (eq-eqb key r.key (sym e)))
+  hit_at (r ∷ rows) key (suc at) v apart l e f =
+      hit_at rows key at v (λ j h. apart (suc j) (omega arith)) (omega arith) e f
+      ∙ sym (cond-false (eqb key r.key) _ _ (ne_eqb key r.key (λ s. apart 0 (omega arith) (sym s))))
+
+  missing_at : (rows : List (Row V)) (key : ℕ) → Apart rows key (length rows) → NonePasses (eqb key) (entries rows)
+  missing_at [] key apart = tt
+  missing_at (r ∷ rows) key apart =
+      (ne_eqb key r.key (λ s. apart 0 (omega arith) (sym s)), missing_at rows key (λ j h. apart (suc j) (omega arith)))
+
+  missing_after : (rows : List (Row V)) (key at : ℕ) → IsStrictlyIncreasing (keys rows) → at < length rows → get_or (keys rows) at 0 ≡ key → NonePasses (eqb key) (entries (drop (suc at) rows))
+  missing_after rows key at up l e =
+      missing_at (drop (suc at) rows) key
+      (λ j h s.
+      let n = length-drop (suc at) rows in
+      let k : keys (drop (suc at) rows) ≡ drop (suc at) (keys rows) = sym (drop-map (λ r. r.key) (suc at) rows) in
+      let d = ap (λ ks. get_or ks j 0) k ∙ get_or-drop (suc at) (keys rows) j 0 in
+      let m : length (keys rows) ≡ length rows = simp length-map in
+      let c = climbs_far (keys rows) up at (suc at + j) (omega arith) (omega arith) in
+      omega arith)
+
+  -- the first of two tests, where the second fails with it
+  behind : (a b : Bool) (x y z : Option V) → (a ≡ false → b ≡ false) → cond a x z ≡ cond a x (cond b y z)
+  behind true b x y z h = refl
+  behind false b x y z h = sym (cond-false b y z (h refl))
+
+  -- two tests in turn, of which one at most holds
+  swapped : (a b : Bool) (x y z : Option V) → (b ≡ true → a ≡ false) → cond a y (cond b x z) ≡ cond b x (cond a y z)
+  swapped a true x y z h = cond-false a y x (h refl)
+  swapped a false x y z h = refl
+
+  -- a row replaced at its place
+  set_at : (rows : List (Row V)) (row : Row V) (at q : ℕ) → Apart rows row.key at → at < length rows → get_or (keys rows) at 0 ≡ row.key → lookup (eqb q) (entries (set rows at row)) ≡ cond (eqb row.key q) (Some row.value) (lookup (eqb q) (entries rows))
+  set_at [] row at q apart l e = absurd (omega arith)
+  set_at (r ∷ rows) row zero q apart l e =
+      ap (λ t. cond t (Some row.value) (lookup (eqb q) (entries rows))) (flip q row.key)
+      ∙ behind (eqb row.key q) (eqb q r.key) (Some row.value) (Some r.value) (lookup (eqb q) (entries rows)) (λ h. ap (eqb q) e ∙ (flip q row.key ∙ h))
+  set_at (r ∷ rows) row (suc at) q apart l e =
+      ap (cond (eqb q r.key) (Some r.value)) (set_at rows row at q (λ j h. apart (suc j) (omega arith)) (omega arith) e)
+      ∙ swapped (eqb q r.key) (eqb row.key q) (Some row.value) (Some r.value) (lookup (eqb q) (entries rows)) (apart_first row.key r.key q (apart 0 (omega arith)))
+
+  -- a row taken out at its place
+  out_at : (rows : List (Row V)) (key at q : ℕ) → Apart rows key at → NonePasses (eqb key) (entries (drop (suc at) rows)) → at < length rows → get_or (keys rows) at 0 ≡ key → lookup (eqb q) (entries (without rows at)) ≡ cond (eqb key q) None (lookup (eqb q) (entries rows))
+  out_at [] key at q apart past l e = absurd (omega arith)
+  out_at (r ∷ rows) key zero q apart past l e =
+      ⊎_elim
+      (λ (h : eqb key q ≡ true).
+      ap (λ k. lookup (eqb k) (entries rows)) (sym (eqb-true key q h))
+      ∙ (lookup-none (eqb key) (entries rows) past ∙ sym (cond-true (eqb key q) None _ h)))
+      (λ (h : eqb key q ≡ false).
+      sym (cond-false (eqb q r.key) (Some r.value) _ (ap (eqb q) e ∙ (flip q key ∙ h))) ∙ sym (cond-false (eqb key q) None _ h))
+      (cases_Bool (eqb key q))
+  out_at (r ∷ rows) key (suc at) q apart past l e =
+      ap (cond (eqb q r.key) (Some r.value)) (out_at rows key at q (λ j h. apart (suc j) (omega arith)) past (omega arith) e)
+      ∙ swapped (eqb q r.key) (eqb key q) None (Some r.value) (lookup (eqb q) (entries rows)) (apart_first key r.key q (apart 0 (omega arith)))
 
 -- ---- order, with a key put in or taken out
 climbs_inserted : (ks : List ℕ) (at key : ℕ) → IsStrictlyIncreasing ks → at ≤ length ks → ((k : ℕ) → k < at → get_or ks k 0 < key) → ((k : ℕ) → at ≤ k → k < length ks → key < get_or ks k 0) → IsStrictlyIncreasing (insert ks at key)
@@ -134,16 +178,15 @@ module _ {V : Type 0} (t : Table V) (key : ℕ) where
       (sym (ap (λ o. cond (is_some o) (t.size - 1) t.size) h))
       (fun_ext (λ q.
       ⊎_elim
-      (λ (e : eqb q key ≡ true). ap t.at (eqb-true q key e) ∙ (h ∙ sym (cond-true (eqb q key) None (t.at q) e)))
-      (λ (e : eqb q key ≡ false). sym (cond-false (eqb q key) None (t.at q) e))
-      (cases_Bool (eqb q key))))
+      (λ (e : eqb key q ≡ true). ap t.at (sym (eqb-true key q e)) ∙ (h ∙ sym (cond-true (eqb key q) None (t.at q) e)))
+      (λ (e : eqb key q ≡ false). sym (cond-false (eqb key q) None (t.at q) e))
+      (cases_Bool (eqb key q))))
 
 -- ---- the table of some rows, and of others
 module _ {V : Type 0} (capacity : ℕ) where
-  retabled : (rows : List (Row V)) (size : ℕ) (ks : List ℕ) (vs : List V) (f : ℕ → Option V) → length rows ≡ size → keys rows ≡ ks → values rows ≡ vs → ((q : ℕ) → lookup eqb ks vs q ≡ f q) → tabled capacity rows ≡ record { capacity = capacity; size = size; at = f }
-  retabled rows size ks vs f n k v h =
-      ap₂ (λ (s : ℕ) (g : ℕ → Option V). record { capacity = capacity; size = s; at = g }) n
-      (fun_ext (λ q. ap₂ (λ ks vs. lookup eqb ks vs q) k v ∙ h q))
+  retabled : (rows : List (Row V)) (size : ℕ) (f : ℕ → Option V) → length rows ≡ size → ((q : ℕ) → lookup (eqb q) (entries rows) ≡ f q) → tabled capacity rows ≡ record { capacity = capacity; size = size; at = f }
+  retabled rows size f n h =
+      ap₂ (λ (s : ℕ) (g : ℕ → Option V). record { capacity = capacity; size = s; at = g }) n (fun_ext h)
 
 module _ {V : Type 0} (capacity : ℕ) (rows : List (Row V)) (key at : ℕ) (up : IsStrictlyIncreasing (keys rows)) where
   abbrev before : Table V
@@ -153,17 +196,11 @@ module _ {V : Type 0} (capacity : ℕ) (rows : List (Row V)) (key at : ℕ) (up 
     key_within : at < length (keys rows)
     key_within = let w = f.within in simp length-map w
 
-    value_within : at < length (values rows)
-    value_within = let w = f.within in simp length-map w
-
-    hit : Hit eqb key (keys rows) at
-    hit =
-        hit_at (keys rows) key at
-        (λ j l s. let c = climbs_far (keys rows) up j at l key_within in let i = f.is in omega arith)
-        key_within f.is
+    apart : Apart rows key at
+    apart j l s = let c = climbs_far (keys rows) up j at l key_within in let i = f.is in omega arith
 
     pub find_ok : (v : V) → v ≡ get_or (values rows) at v → Some v ≡ before.at key
-    find_ok v e = sym (lookup-hit eqb key v (keys rows) (values rows) at hit value_within ∙ ap Some (sym e))
+    find_ok v e = hit_at rows key at v apart f.within f.is e
 
     -- the row is replaced
     module _ (v : V) where
@@ -180,8 +217,7 @@ module _ {V : Type 0} (capacity : ℕ) (rows : List (Row V)) (key at : ℕ) (up 
 
       pub set_state : (old : V) → Some old ≡ before.at key → tabled capacity (set rows at row) ≡ putted before key v
       set_state old e =
-          retabled capacity (set rows at row) (length rows) (keys rows) (set (values rows) at v) _ (length-set rows at row) keys_same (map-set (λ r. r.value) rows at row)
-          (λ q. lookup-set eqb flip alike key q v (keys rows) (values rows) at hit value_within)
+          retabled capacity (set rows at row) (length rows) _ (length-set rows at row) (λ q. set_at rows row at q apart f.within f.is)
           ∙ sym (ap (put_into before key v) (put_known before key old (sym e)))
 
     -- the row is taken out
@@ -190,34 +226,28 @@ module _ {V : Type 0} (capacity : ℕ) (rows : List (Row V)) (key at : ℕ) (up 
         map-append (λ r. r.key) (take at rows) (drop (suc at) rows)
         ∙ ap₂ ◌++◌ (sym (take-map (λ r. r.key) at rows)) (sym (drop-map (λ r. r.key) (suc at) rows))
 
-    values_out : values (without rows at) ≡ without (values rows) at
-    values_out =
-        map-append (λ r. r.value) (take at rows) (drop (suc at) rows)
-        ∙ ap₂ ◌++◌ (sym (take-map (λ r. r.value) at rows)) (sym (drop-map (λ r. r.value) (suc at) rows))
-
     pub out_up : IsStrictlyIncreasing (keys (without rows at))
     out_up = rw keys_out (climbs_removed (keys rows) at up key_within)
 
     pub out_state : (old : V) → Some old ≡ before.at key → tabled capacity (without rows at) ≡ removed before key
     out_state old e =
         let n = length-remove rows at f.within in
-        retabled capacity (without rows at) (length rows - 1) (without (keys rows) at) (without (values rows) at) _ (omega arith) keys_out values_out
-        (λ q. lookup-remove eqb flip alike key q (keys rows) (values rows) at hit (missing_after (keys rows) key at up key_within f.is) value_within)
+        retabled capacity (without rows at) (length rows - 1) _ (omega arith)
+        (λ q. out_at rows key at q apart (missing_after rows key at up f.within f.is) f.within f.is)
         ∙ ap (λ (s : ℕ). record { capacity = capacity; size = s; at = update eqb before.at key None }) (ap (λ o. cond (is_some o) (length rows - 1) (length rows)) e)
 
   module _ (f : Gap rows key at) where
-    missing : Missing eqb key (keys rows)
+    missing : NonePasses (eqb key) (entries rows)
     missing =
-        missing_at (keys rows) key
+        missing_at rows key
         (λ j l s.
-        let m : j < length rows = simp length-map at l in
         ⊎_elim
         (λ (o : j < at). let b = f.below j o in omega arith)
-        (λ (o : at ≤ j). let a = f.above j o m in omega arith)
+        (λ (o : at ≤ j). let a = f.above j o l in omega arith)
         (cases_lt j at))
 
     pub find_none : None ≡ before.at key
-    find_none = sym (lookup-missing eqb key (keys rows) (values rows) missing)
+    find_none = sym (lookup-none (eqb key) (entries rows) missing)
 
     pub full : capacity ≤ length rows → Err Full ≡ put_reply before key
     full l = sym (put_full before key (sym find_none) l)
@@ -232,10 +262,10 @@ module _ {V : Type 0} (capacity : ℕ) (rows : List (Row V)) (key at : ℕ) (up 
           map-append (λ r. r.key) (take at rows) _
           ∙ ap₂ (λ a b. a ++ key ∷ b) (sym (take-map (λ r. r.key) at rows)) (sym (drop-map (λ r. r.key) at rows))
 
-      values_in : values more ≡ insert (values rows) at v
-      values_in =
-          map-append (λ r. r.value) (take at rows) _
-          ∙ ap₂ (λ a b. a ++ v ∷ b) (sym (take-map (λ r. r.value) at rows)) (sym (drop-map (λ r. r.value) at rows))
+      entries_in : entries more ≡ insert (entries rows) at (key, v)
+      entries_in =
+          map-append (λ r. (r.key, r.value)) (take at rows) _
+          ∙ ap₂ (λ a b. a ++ (key, v) ∷ b) (sym (take-map (λ r. (r.key, r.value)) at rows)) (sym (drop-map (λ r. (r.key, r.value)) at rows))
 
       pub in_up : IsStrictlyIncreasing (keys more)
       in_up =
@@ -248,8 +278,8 @@ module _ {V : Type 0} (capacity : ℕ) (rows : List (Row V)) (key at : ℕ) (up 
       pub in_state : tabled capacity more ≡ putted before key v
       in_state =
           let w = f.within in
-          retabled capacity more (length rows + 1) (insert (keys rows) at key) (insert (values rows) at v) _ (length-insert rows at _ w) keys_in values_in
-          (λ q. lookup-insert eqb flip alike key q v at (keys rows) (values rows) missing (simp length-map w) (simp length-map w))
+          retabled capacity more (length rows + 1) _ (length-insert rows at _ w)
+          (λ q. ap (lookup (eqb q)) entries_in ∙ lookup-insert nat_eq_equiv key v q (entries rows) at missing)
           ∙ ap (put_into before key v) in_answer
 
 -- ---- what an edit of the places means

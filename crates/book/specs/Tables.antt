@@ -19,9 +19,13 @@ keys rows = map (λ r. r.key) rows
 abbrev pub values : {V : Type 0} → List (Row V) → List V
 values rows = map (λ r. r.value) rows
 
+-- each row as a key with its value
+abbrev pub entries : {V : Type 0} → List (Row V) → List (ℕ × V)
+entries rows = map (λ r. (r.key, r.value)) rows
+
 -- the table that some rows make
 abbrev pub tabled : {V : Type 0} → ℕ → List (Row V) → Table V
-tabled capacity rows = record { capacity = capacity; size = length rows; at = lookup nat_eq (keys rows) (values rows) }
+tabled capacity rows = record { capacity = capacity; size = length rows; at = λ key. lookup (nat_eq key) (entries rows) }
 
 -- no key has a value
 abbrev pub emptied : {V : Type 0} → ℕ → Table V

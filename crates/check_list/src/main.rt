@@ -1,4 +1,6 @@
 // Plays this crate's journal, stdin, for the gate to compare with stdout.
+#![tactic(auto)]
+
 use player::play::play;
 
 fn main(rt: HostRuntime) -> anyhow::Result<()> {

@@ -1,4 +1,6 @@
 // Delta sources: how much of a future a contract counts for, in ten-thousandths of a unit.
+#![tactic(auto)]
+
 pub mod bounds;
 pub mod mixed;
 pub mod mixing;

@@ -1,4 +1,6 @@
 // Replays a journal: the file that the first argument names, or standard input where there is none.
+#![tactic(auto)]
+
 use player::play::play;
 use std::env;
 use std::fs::File;

@@ -1,4 +1,6 @@
 // The journal's lines: what each says.
+#![tactic(auto)]
+
 pub mod bounds;
 pub mod line;
 mod names;

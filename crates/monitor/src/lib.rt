@@ -1,4 +1,6 @@
 // The monitor: opened over a book that it borrows, each call an equation with the model.
+#![tactic(auto)]
+
 pub mod calls;
 pub mod close;
 pub mod custody;

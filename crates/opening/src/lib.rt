@@ -1,4 +1,6 @@
 // The opening of a journal: what is declared before the monitor is open.
+#![tactic(auto)]
+
 pub mod bounds;
 mod roster;
 pub mod setup;

@@ -1,4 +1,6 @@
 // Plays a journal: from the lines of an input to a monitor's answers on an output.
+#![tactic(auto)]
+
 mod declare;
 mod lines;
 pub mod play;

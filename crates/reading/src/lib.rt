@@ -1,4 +1,6 @@
 // What entities hold in an underlying, in futures: readings of an entity, interest of the market, and what a reading lacks.
+#![tactic(auto)]
+
 pub mod entity;
 pub mod making;
 pub mod market;

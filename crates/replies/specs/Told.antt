@@ -1,5 +1,5 @@
 -- What is printed of an answer.
-use Rattle.std.specs.Prelude.{ℕ, List, [], ◌∷◌, ◌++◌, ℤ, Ok, Err, codes, decimal, Result}
+use Rattle.std.specs.Prelude.{ℕ, List, [], ◌++◌, ℤ, Ok, Err, codes, decimal, Result}
 use Rattle.std.specs.Fmt.{signed_decimal}
 use Rattle.terms.specs.Refusals.{number_of, name_of}
 use Rattle.terms.specs.declared.refusal.Refusal.{Refusal}

@@ -1,4 +1,6 @@
 // The words at the end of a line, any number of them, each read as a value of one type. specs/Tails.antt says what they are.
+#![tactic(auto)]
+
 ghost use Rattle.std.specs.Prelude.{◌≡◌, ℕ, List, take, drop, Option};
 ghost use Rattle.text.specs.Words.{to_come, first, others};
 ghost use Rattle.tails.specs.Tails.{all_are, values_of, tail_of};

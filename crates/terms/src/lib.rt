@@ -1,4 +1,6 @@
 // What everything is called: kinds, underlyings, marks, sides, commands, refusals and bounds.
+#![tactic(auto)]
+
 pub mod bounds;
 pub mod command;
 pub mod kind;

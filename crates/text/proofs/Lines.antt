@@ -8,7 +8,6 @@ use Rattle.std.proofs.lemmas.List.{length-take-le}
 use Rattle.std.proofs.lemmas.Bool.{eq-eqb, ne_eqb, cond-true, cond-false, and_from, and_parts, cases_Bool}
 use Rattle.std.proofs.lemmas.Str.{scalars-chars, encodes-chars}
 use Rattle.std.proofs.lemmas.List.Sums.{prefix_len-le-length}
-use Rattle.text.specs.declared.words.Class.{Class}
 use Rattle.text.specs.declared.words.Class.TheVariants.{Plain, Blank, Solid}
 use Rattle.text.specs.Scans.{belongs}
 use Rattle.text.specs.Words.{blank, unreturned, uncommented, onto, pieces, solid, first, others, count_before, is_text}

@@ -6,4 +6,4 @@ use Rattle.text.proofs.words.is.Goals as goal
 
 pub returns : goal.returns
 returns c =
-    same_from_decides _ _ (slice_eq-Decides Decides-eqb _ _ _ c.eq.ensures) (bytes_eq-Decides _ _) ∙ ap (bytes_eq c.args.word.now) c.as-bytes.ensures.value
+    same_from_decides _ _ (slice_eq-Decides Decides-eqb _ _ _ c.eq.ensures) (bytes_eq-Decides c.args.word.now c.as_bytes.result.now) ∙ ap (bytes_eq c.args.word.now) c.as_bytes.ensures.value

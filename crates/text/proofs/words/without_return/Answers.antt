@@ -9,5 +9,5 @@ returns-then-last-eq13 c = with_return _ _ _ c.in-Some.ensures.cases.0 c.if-last
 pub returns-else-last-eq13 : goal.returns-else-last-eq13
 returns-else-last-eq13 c = without_return_is _ _ _ c.in-Some.ensures.cases.0 c.if-last-eq13.false
 
-pub returns-in-default : goal.returns-in-default
-returns-in-default c = rw (nil_from_length c.args.line.now c.in-default.ensures.cases) refl
+pub returns-in_default : goal.returns-in_default
+returns-in_default c = rw (nil_from_length c.args.line.now c.in_default.ensures.cases) refl

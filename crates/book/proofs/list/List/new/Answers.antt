@@ -5,10 +5,10 @@ use Rattle.book.specs.Places.{table}
 use Rattle.book.proofs.Lists.{new_keeps, new_state}
 use Rattle.book.proofs.list.List.new.Goals as goal
 
-pub invariant-of-result : goal.invariant-of-result
-invariant-of-result c =
+pub invariant_of-result : goal.invariant_of-result
+invariant_of-result c =
     let k = new_keeps c.housed-entities.result c.args.contracts _ (table c.new-places.result) c.new-places.ensures.state in
-    (c.new-places.ensures.room, (c.new-places.ensures.ordered, (k.0, (k.1, tt))))
+    record { room = c.new-places.ensures.room; ordered = c.new-places.ensures.ordered; stored = k.0; counted = k.1 }
 
 pub returns : goal.returns
 returns c =

@@ -7,9 +7,9 @@ use Rattle.book.proofs.list.ListHolds.quantity.Goals as goal
 pub returns-in-Some : goal.returns-in-Some
 returns-in-Some c =
     let s = c.args.self.now in
-    let f : SFits w64 c.quantity-at.result = search rules in
-    to_z-of_z w64 c.quantity-at.result f
-    ∙ (c.quantity-at.ensures ∙ old_is s.entities s.contracts (table s.places) s.stored s.counted _ _ _ c.in-Some.ensures)
+    let f : SFits w64 c.quantity_at.result = search rules in
+    to_z-of_z w64 c.quantity_at.result f
+    ∙ (c.quantity_at.ensures ∙ old_is s.entities s.contracts (table s.places) s.stored s.counted _ _ _ c.in-Some.ensures)
 
 pub returns-in-None : goal.returns-in-None
 returns-in-None c =

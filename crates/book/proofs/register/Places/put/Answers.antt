@@ -11,7 +11,7 @@ returns-in-Ok g c =
     let p = c.args.self.now in
     let k = length p.rows.now in
     let s = find_ok k (used p) c.args.key c.in-Ok.at c.requires.ordered c.in-Ok.ensures c.value-old.result c.value-old.ensures in
-    let e = c.replace-at.ensures in
+    let e = c.replace_at.ensures in
     let rows = set (used p) c.in-Ok.at (record { key = c.args.key; value = c.args.value }) in
     record {
       answer = sym (put_known (table p) c.args.key c.value-old.result (sym s));
@@ -39,7 +39,7 @@ returns-else-self g c =
     let k = length p.rows.now in
     let n = length-take-le p.len p.rows.now c.requires.room in
     let l : length (used p) < k = omega arith in
-    let e = c.insert-at.ensures in
+    let e = c.insert_at.ensures in
     let rows = insert (used p) c.in-Err.at (record { key = c.args.key; value = c.args.value }) in
     record {
       answer = in_answer k (used p) c.args.key c.in-Err.at c.requires.ordered c.in-Err.ensures c.args.value l;

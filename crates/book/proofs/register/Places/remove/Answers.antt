@@ -9,7 +9,7 @@ returns-in-Ok g c =
     let p = c.args.self.now in
     let k = length p.rows.now in
     let s = find_ok k (used p) c.args.key c.in-Ok.at c.requires.ordered c.in-Ok.ensures c.value-old.result c.value-old.ensures in
-    let e = c.remove-at.ensures in
+    let e = c.remove_at.ensures in
     let rows = without (used p) c.in-Ok.at in
     record {
       answer = s;

@@ -5,9 +5,9 @@ use Rattle.book.proofs.register.Places.remove_at.Goals as goal
 pub returns : goal.returns
 returns g c =
     let p = c.args.self.now in
-    let n = out_length p.rows.now p.len c.args.at _ c.requires.room c.requires.within c.rotate-left.ensures.after in
+    let n = out_length p.rows.now p.len c.args.at _ c.requires.room c.requires.within c.rotate_left.ensures.after in
     record {
       room = omega arith;
       capacity = n;
-      rows = row_out p.rows.now p.len c.args.at _ c.requires.room c.requires.within c.rotate-left.ensures.after;
+      rows = row_out p.rows.now p.len c.args.at _ c.requires.room c.requires.within c.rotate_left.ensures.after;
     }

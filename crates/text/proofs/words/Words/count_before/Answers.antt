@@ -3,8 +3,8 @@ use Rattle.text.specs.Words.{to_come}
 use Rattle.text.proofs.Lines.{few_words, one_longer, before_here, before_more, before_none}
 use Rattle.text.proofs.words.Words.count_before.Goals as goal
 
-pub overflow-add-passed : goal.overflow-add-passed
-overflow-add-passed c = omega (arith, few_words c.args.self.rest.now, c.ranges.self, one_longer _ _ _ c.in-Some.ensures.word c.in-Some.ensures.rest)
+pub overflow_add-passed : goal.overflow_add-passed
+overflow_add-passed c = omega (arith, few_words c.args.self.rest.now, c.ranges.self, one_longer _ _ _ c.in-Some.ensures.word c.in-Some.ensures.rest)
 
 pub returns-then-is : goal.returns-then-is
 returns-then-is c = omega (arith, before_here c.args.name.now _ (to_come c.loop-word.words) c.in-Some.ensures.word c.if-is.ensures)
@@ -17,4 +17,4 @@ loop-word-preserved c =
     )
 
 pub returns : goal.returns
-returns c = omega (arith, before_none c.args.name.now (to_come c.loop-word.words) c.in-default.ensures.word)
+returns c = omega (arith, before_none c.args.name.now (to_come c.loop-word.words) c.in_default.ensures.word)
