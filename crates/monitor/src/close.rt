@@ -38,7 +38,7 @@ fn is_untimely(banned: bool, two: u64, closing: u64) -> bool
 
 // DELTA with what is told, if anything is.
 fn none_missing<N: Needs>(who: &N, sheet: &Sheet, entities: usize) -> Result<(), Refusal>
-    ensures { result ≡ unless_missing (missing entities (lacking_of sheet.now) (needed who.now)) (Ok tt) }
+    ensures { result ≡ unless_missing (missing entities (lacking_of sheet.now) (N.needed who.now)) (Ok tt) }
 {
     match first_missing(who, sheet, entities) {
         None => Ok(()),
@@ -61,9 +61,9 @@ impl Inner {
     ) -> u64
         requires underlying { underlying < most_underlyings }
         requires entities { entities ≤ most_entities }
-        ensures count { result ≡ charged_count entities (turn_by self.old underlying (interest entities (weights_of closing.now) (quantity_of (held book.now)))) (weights_of two.now) (base_of self.old.base.cells) (quantity_of (held book.now)) }
-        ensures base { base_of self.new.base.cells ≡ closed_base entities (within contracts.now underlying) (turn_by self.old underlying (interest entities (weights_of closing.now) (quantity_of (held book.now)))) (weights_of two.now) (base_of self.old.base.cells) (quantity_of (held book.now)) }
-        ensures stocks { stocks_of self.new ≡ at underlying (stock_by self.old underlying entities (interest entities (weights_of closing.now) (quantity_of (held book.now))) (weights_of two.now) (base_of self.old.base.cells) (quantity_of (held book.now)) price) (stocks_of self.old) }
+        ensures count { result ≡ charged_count entities (turn_by self.old underlying (interest entities (weights_of closing.now) (quantity_of (B.held book.now)))) (weights_of two.now) (base_of self.old.base.cells) (quantity_of (B.held book.now)) }
+        ensures base { base_of self.new.base.cells ≡ closed_base entities (within contracts.now underlying) (turn_by self.old underlying (interest entities (weights_of closing.now) (quantity_of (B.held book.now)))) (weights_of two.now) (base_of self.old.base.cells) (quantity_of (B.held book.now)) }
+        ensures stocks { stocks_of self.new ≡ at underlying (stock_by self.old underlying entities (interest entities (weights_of closing.now) (quantity_of (B.held book.now))) (weights_of two.now) (base_of self.old.base.cells) (quantity_of (B.held book.now)) price) (stocks_of self.old) }
         ensures rest { (self.new.tickets ≡ self.old.tickets) × (self.new.days ≡ self.old.days) × (self.new.marks ≡ self.old.marks) }
     {
         let limit = self.limits[underlying].unwrap_or(0);

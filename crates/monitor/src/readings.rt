@@ -14,7 +14,7 @@ use reading::{entity, market};
 impl<'b, 't, B: Book> Monitor<'b, 't, B> {
     // Net, long and short of an entity in an underlying, in ten-thousandths of a unit.
     pub fn reading<D: Delta>(&self, underlying: usize, source: &D, entity: usize) -> (i64, i64, i64)
-        ensures { result ≡ reading_answer (state_of B.Holds.held self.now) underlying (answer source.now) entity }
+        ensures { result ≡ reading_answer (state_of B.Holds.held self.now) underlying (D.answer source.now) entity }
     {
         if !self.fixed.live {
             return (0, 0, 0);
@@ -25,7 +25,7 @@ impl<'b, 't, B: Book> Monitor<'b, 't, B> {
 
     // The first contract of an underlying that lacks a needed delta, and the first entity that needs it.
     pub fn missing<D: Delta>(&self, underlying: usize, source: &D) -> Option<(usize, usize)>
-        ensures { result ≡ missing_answer (state_of B.Holds.held self.now) underlying (answer source.now) }
+        ensures { result ≡ missing_answer (state_of B.Holds.held self.now) underlying (D.answer source.now) }
     {
         if !self.fixed.live {
             return None;
@@ -42,7 +42,7 @@ impl<'b, 't, B: Book> Monitor<'b, 't, B> {
 
     // Market open interest in an underlying: the sum over entities of the size of net.
     pub fn interest<D: Delta>(&self, underlying: usize, source: &D) -> u128
-        ensures { result ≡ interest_answer (state_of B.Holds.held self.now) underlying (answer source.now) }
+        ensures { result ≡ interest_answer (state_of B.Holds.held self.now) underlying (D.answer source.now) }
     {
         if !self.fixed.live {
             return 0;

@@ -5,7 +5,7 @@ use mir.Syntax.{w128}
 use Rattle.std.proofs.lemmas.Int.{ints}
 use Rattle.std.proofs.lemmas.Bool.{cond_both}
 use Rattle.terms.specs.Bounds.{most_contracts}
-use Rattle.book.specs.Holding.{Holding, Sound, quantity_of}
+use Rattle.book.specs.Holding.{Holding, Sound}
 use Rattle.delta.specs.Sources.{delta_bound}
 use Rattle.reading.specs.declared.sheet.Sheet.{Sheet}
 use Rattle.reading.specs.Sums.{sum_below}

@@ -20,7 +20,7 @@ fn times(quantity: i64, weight: i32) -> i64
 
 // A contract's part for an entity. A quantity that weighs nothing is not looked up.
 fn part_of<H: Holds>(holder: &H, sheet: &Sheet, entity: usize, c: usize) -> i64
-    ensures { result ≡ part (quantity_of (held holder.now) entity c) (weights_of sheet.now c) }
+    ensures { result ≡ part (quantity_of (H.held holder.now) entity c) (weights_of sheet.now c) }
 {
     let weight = sheet.weight(c);
     if weight == 0 {
@@ -46,7 +46,7 @@ fn fall(p: i64) -> i64
 
 // Net, long and short of an entity.
 pub fn reading<H: Holds>(holder: &H, sheet: &Sheet, entity: usize) -> (i64, i64, i64)
-    ensures { result ≡ reading_of (weights_of sheet.now) (quantity_of (held holder.now)) entity }
+    ensures { result ≡ reading_of (weights_of sheet.now) (quantity_of (H.held holder.now)) entity }
 {
     let mut long = 0;
     let mut short = 0;
@@ -60,7 +60,7 @@ pub fn reading<H: Holds>(holder: &H, sheet: &Sheet, entity: usize) -> (i64, i64,
 
 // Net alone.
 pub fn net<H: Holds>(holder: &H, sheet: &Sheet, entity: usize) -> i64
-    ensures { result ≡ net (weights_of sheet.now) (quantity_of (held holder.now)) entity }
+    ensures { result ≡ net (weights_of sheet.now) (quantity_of (H.held holder.now)) entity }
 {
     let (n, _, _) = reading(holder, sheet, entity);
     n

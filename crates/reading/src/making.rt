@@ -10,7 +10,7 @@ use terms::kind::Contract;
 
 // What a unit of contract `c` weighs, and whether it lacks a delta.
 fn weigh<D: Delta>(source: &D, contracts: &[Contract], underlying: usize, c: usize) -> (i32, bool)
-    ensures { result ≡ (weight_of contracts.now underlying (answer source.now) c, lacks_delta contracts.now underlying (answer source.now) c) }
+    ensures { result ≡ (weight_of contracts.now underlying (D.answer source.now) c, lacks_delta contracts.now underlying (D.answer source.now) c) }
 {
     if c >= MOST_CONTRACTS || c >= contracts.len() || contracts[c].underlying != underlying {
         return (0, false);
@@ -24,8 +24,8 @@ fn weigh<D: Delta>(source: &D, contracts: &[Contract], underlying: usize, c: usi
 impl Sheet {
     // The sheet of an underlying's contracts at a source.
     pub fn new<D: Delta>(source: &D, contracts: &[Contract], underlying: usize) -> Sheet
-        ensures weights { weights_of result ≡ weight_of contracts.now underlying (answer source.now) }
-        ensures lacking { lacking_of result ≡ lacks_delta contracts.now underlying (answer source.now) }
+        ensures weights { weights_of result ≡ weight_of contracts.now underlying (D.answer source.now) }
+        ensures lacking { lacking_of result ≡ lacks_delta contracts.now underlying (D.answer source.now) }
     {
         let mut weights = [0; MOST_CONTRACTS];
         let mut lacking = [false; MOST_CONTRACTS];

@@ -10,14 +10,14 @@ use book::position::Holds;
 
 // The size of an entity's net.
 fn net_size<H: Holds>(holder: &H, sheet: &Sheet, entity: usize) -> u64
-    ensures { result ≡ unsigned_abs (net (weights_of sheet.now) (quantity_of (held holder.now)) entity) }
+    ensures { result ≡ unsigned_abs (net (weights_of sheet.now) (quantity_of (H.held holder.now)) entity) }
 {
     entity::net(holder, sheet, entity).unsigned_abs()
 }
 
 // An entity's long plus short.
 fn both_sides<H: Holds>(holder: &H, sheet: &Sheet, entity: usize) -> u64
-    ensures { result ≡ long (weights_of sheet.now) (quantity_of (held holder.now)) entity + short (weights_of sheet.now) (quantity_of (held holder.now)) entity }
+    ensures { result ≡ long (weights_of sheet.now) (quantity_of (H.held holder.now)) entity + short (weights_of sheet.now) (quantity_of (H.held holder.now)) entity }
 {
     let (_, above, below) = entity::reading(holder, sheet, entity);
     (above + below) as u64
@@ -25,7 +25,7 @@ fn both_sides<H: Holds>(holder: &H, sheet: &Sheet, entity: usize) -> u64
 
 // The sum of the sizes of net over the first entities.
 pub fn interest<H: Holds>(holder: &H, sheet: &Sheet, entities: usize) -> u128
-    ensures { result ≡ interest entities (weights_of sheet.now) (quantity_of (held holder.now)) }
+    ensures { result ≡ interest entities (weights_of sheet.now) (quantity_of (H.held holder.now)) }
 {
     let mut total = 0;
     for e in 0..entities {
@@ -36,7 +36,7 @@ pub fn interest<H: Holds>(holder: &H, sheet: &Sheet, entities: usize) -> u128
 
 // The sum of long plus short over the first entities.
 pub fn gross<H: Holds>(holder: &H, sheet: &Sheet, entities: usize) -> u128
-    ensures { result ≡ gross entities (weights_of sheet.now) (quantity_of (held holder.now)) }
+    ensures { result ≡ gross entities (weights_of sheet.now) (quantity_of (H.held holder.now)) }
 {
     let mut total = 0;
     for e in 0..entities {

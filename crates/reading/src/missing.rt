@@ -48,8 +48,8 @@ impl<'a, 'b, H: Holds, G: Holds> Needs for Either<'a, 'b, H, G> {
 
 // The first contract that lacks a delta that one of the first entities needs, and the first of those.
 pub fn first_missing<N: Needs>(who: &N, sheet: &Sheet, entities: usize) -> Option<(usize, usize)>
-    ensures answer { result ≡ missing entities (lacking_of sheet.now) (needed who.now) }
-    ensures first { FirstMissing entities (lacking_of sheet.now) (needed who.now) result }
+    ensures answer { result ≡ missing entities (lacking_of sheet.now) (N.needed who.now) }
+    ensures first { FirstMissing entities (lacking_of sheet.now) (N.needed who.now) result }
 {
     'found: {
         for c in 0..MOST_CONTRACTS {

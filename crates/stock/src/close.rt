@@ -55,7 +55,7 @@ impl Base {
     fn copy_pair<H: Holds>(&mut self, from: &H, entity: usize, contract: usize)
         requires entity { entity < most_entities }
         requires contract { contract < most_contracts }
-        ensures { base_of self.new.cells ≡ put (base_of self.old.cells) entity contract (quantity_of (held from.now) entity contract) }
+        ensures { base_of self.new.cells ≡ put (base_of self.old.cells) entity contract (quantity_of (H.held from.now) entity contract) }
     {
         self.put(entity, contract, from.quantity(entity, contract));
     }
@@ -69,7 +69,7 @@ impl Base {
         entity: usize,
     )
         requires { entity < most_entities }
-        ensures { base_of self.new.cells ≡ with_row (within contracts.now underlying) entity (quantity_of (held from.now) entity) (base_of self.old.cells) }
+        ensures { base_of self.new.cells ≡ with_row (within contracts.now underlying) entity (quantity_of (H.held from.now) entity) (base_of self.old.cells) }
     {
         for c in 0..MOST_CONTRACTS {
             if is_within(contracts, underlying, c) {
@@ -80,7 +80,7 @@ impl Base {
 
     // Whether an entity is charged, and its violated quantity.
     fn judge<B: Holds>(&self, book: &B, closing: Closing<'_, '_>, entity: usize) -> (bool, u64)
-        ensures { result ≡ found closing.entry.turn (weights_of closing.entry.two.now) (base_of self.now.cells) (quantity_of (held book.now)) entity }
+        ensures { result ≡ found closing.entry.turn (weights_of closing.entry.two.now) (base_of self.now.cells) (quantity_of (B.held book.now)) entity }
     {
         if !closing.turn.judges() {
             return (false, 0);
@@ -99,7 +99,7 @@ impl Base {
         entity: usize,
     )
         requires { entity < most_entities }
-        ensures { base_of self.new.cells ≡ with_row (within closing.entry.contracts.now closing.entry.underlying) entity (λ c. new_pair closing.entry.turn (not charged) (quantity_of (held book.now) entity c) (base_of self.old.cells entity c)) (base_of self.old.cells) }
+        ensures { base_of self.new.cells ≡ with_row (within closing.entry.contracts.now closing.entry.underlying) entity (λ c. new_pair closing.entry.turn (not charged) (quantity_of (B.held book.now) entity c) (base_of self.old.cells entity c)) (base_of self.old.cells) }
     {
         match closing.turn {
             Turn::NoBan => {}
@@ -123,10 +123,10 @@ impl Base {
         entities: usize,
         closing: Closing<'_, '_>,
     ) -> u64
-        ensures base { base_of self.new.cells ≡ closed_base (min entities most_entities) (within closing.entry.contracts.now closing.entry.underlying) closing.entry.turn (weights_of closing.entry.two.now) (base_of self.old.cells) (quantity_of (held book.now)) }
-        ensures violated { row_of violated.new ≡ closed_violated (min entities most_entities) closing.entry.turn (weights_of closing.entry.two.now) (base_of self.old.cells) (quantity_of (held book.now)) }
-        ensures charges { row_of charges.new ≡ closed_charge (min entities most_entities) closing.entry.turn (weights_of closing.entry.two.now) (base_of self.old.cells) (quantity_of (held book.now)) closing.entry.price }
-        ensures count { result ≡ charged_count (min entities most_entities) closing.entry.turn (weights_of closing.entry.two.now) (base_of self.old.cells) (quantity_of (held book.now)) }
+        ensures base { base_of self.new.cells ≡ closed_base (min entities most_entities) (within closing.entry.contracts.now closing.entry.underlying) closing.entry.turn (weights_of closing.entry.two.now) (base_of self.old.cells) (quantity_of (B.held book.now)) }
+        ensures violated { row_of violated.new ≡ closed_violated (min entities most_entities) closing.entry.turn (weights_of closing.entry.two.now) (base_of self.old.cells) (quantity_of (B.held book.now)) }
+        ensures charges { row_of charges.new ≡ closed_charge (min entities most_entities) closing.entry.turn (weights_of closing.entry.two.now) (base_of self.old.cells) (quantity_of (B.held book.now)) closing.entry.price }
+        ensures count { result ≡ charged_count (min entities most_entities) closing.entry.turn (weights_of closing.entry.two.now) (base_of self.old.cells) (quantity_of (B.held book.now)) }
     {
         *violated = [0; MOST_ENTITIES];
         *charges = [0; MOST_ENTITIES];

@@ -1,27 +1,23 @@
-use Rattle.std.proofs.Common.{◌≡◌, ℕ, ◌≤◌, nat_abs, ap, arith}
+use Rattle.std.proofs.Common.{◌≡◌, nat_abs, ap, arith}
 use Rattle.terms.specs.Bounds.{most_contracts}
-use Rattle.book.specs.Holding.{Holding, Sound}
-use Rattle.reading.specs.declared.sheet.Sheet.{Sheet}
-use Rattle.reading.specs.Readings.{part_bound, up, down}
-use Rattle.reading.proofs.Turns.{Grown, part_at_small, stored, up_turn, down_turn, longs_end, shorts_end, net_end}
-use Rattle.reading.proofs.entity.reading.Given as given
+use Rattle.reading.proofs.Turns.{part_at_small, stored, up_turn, down_turn, longs_end, shorts_end, net_end}
 use Rattle.reading.proofs.entity.reading.Goals as goal
 
-pub overflow-add-long : goal.overflow-add-long
-overflow-add-long g c =
-    (up_turn (g.H.Holds.held c.args.holder.now) c.args.sheet.now (g.H.Holds.sound c.args.holder.now) c.args.entity c.loop-c.c c.loop-c-test.true _ c.part-of-p.result c.rise-long.result c.loop-c.invariant.0 c.part-of-p.ensures c.rise-long.ensures
+pub overflow_add-long : goal.overflow_add-long
+overflow_add-long g c =
+    (up_turn (g.H.Holds.held c.args.holder.now) c.args.sheet.now (g.H.Holds.sound c.args.holder.now) c.args.entity c.loop-c.c c.loop-c-test.true _ c.part_of-p.result c.rise-long.result c.loop-c.invariant.0 c.part_of-p.ensures c.rise-long.ensures
     ).fits
 
 pub fall-short-requires : goal.fall-short-requires
 fall-short-requires g c =
     let b = g.H.Holds.held c.args.holder.now in
     let k = part_at_small b c.args.sheet.now (g.H.Holds.sound c.args.holder.now) c.args.entity c.loop-c.c in
-    let e = stored b c.args.sheet.now (g.H.Holds.sound c.args.holder.now) c.args.entity c.loop-c.c c.part-of-p.result c.part-of-p.ensures in
+    let e = stored b c.args.sheet.now (g.H.Holds.sound c.args.holder.now) c.args.entity c.loop-c.c c.part_of-p.result c.part_of-p.ensures in
     omega (arith, k, ap nat_abs e)
 
-pub overflow-add-short : goal.overflow-add-short
-overflow-add-short g c =
-    (down_turn (g.H.Holds.held c.args.holder.now) c.args.sheet.now (g.H.Holds.sound c.args.holder.now) c.args.entity c.loop-c.c c.loop-c-test.true _ c.part-of-p.result c.fall-short.result c.loop-c.invariant.1 c.part-of-p.ensures c.fall-short.ensures
+pub overflow_add-short : goal.overflow_add-short
+overflow_add-short g c =
+    (down_turn (g.H.Holds.held c.args.holder.now) c.args.sheet.now (g.H.Holds.sound c.args.holder.now) c.args.entity c.loop-c.c c.loop-c-test.true _ c.part_of-p.result c.fall-short.result c.loop-c.invariant.1 c.part_of-p.ensures c.fall-short.ensures
     ).fits
 
 pub loop-c-preserved : goal.loop-c-preserved
@@ -29,9 +25,9 @@ loop-c-preserved g c =
     let b = g.H.Holds.held c.args.holder.now in
     let s = c.args.sheet.now in
     let sound = g.H.Holds.sound c.args.holder.now in (
-      (up_turn b s sound c.args.entity c.loop-c.c c.loop-c-test.true _ c.part-of-p.result c.rise-long.result c.loop-c.invariant.0 c.part-of-p.ensures c.rise-long.ensures
+      (up_turn b s sound c.args.entity c.loop-c.c c.loop-c-test.true _ c.part_of-p.result c.rise-long.result c.loop-c.invariant.0 c.part_of-p.ensures c.rise-long.ensures
           ).is,
-      (down_turn b s sound c.args.entity c.loop-c.c c.loop-c-test.true _ c.part-of-p.result c.fall-short.result c.loop-c.invariant.1 c.part-of-p.ensures c.fall-short.ensures
+      (down_turn b s sound c.args.entity c.loop-c.c c.loop-c-test.true _ c.part_of-p.result c.fall-short.result c.loop-c.invariant.1 c.part_of-p.ensures c.fall-short.ensures
           ).is,
     )
 

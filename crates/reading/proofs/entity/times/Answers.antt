@@ -14,8 +14,8 @@ same c =
 fits : (c : goal.After-from) → SFits w64 (part c.args.quantity c.args.weight)
 fits c = omega (arith, ints, part_small c.args.quantity c.args.weight c.requires.0 c.requires.1)
 
-pub overflow-mul-result : goal.overflow-mul-result
-overflow-mul-result c = rw (same c) (fits c)
+pub overflow_mul-result : goal.overflow_mul-result
+overflow_mul-result c = rw (same c) (fits c)
 
 pub returns : goal.returns
 returns c = rw (same c) (to_z-of_z w64 (part c.args.quantity c.args.weight) (fits c))

@@ -1,4 +1,4 @@
-use Rattle.std.proofs.Common.{◌+◌, nat_abs, ◌∙◌, arith}
+use Rattle.std.proofs.Common.{nat_abs, ◌∙◌, arith}
 use Rattle.reading.specs.Readings.{net}
 use Rattle.reading.specs.Views.{weights_of}
 use Rattle.reading.proofs.Turns.{Tallied, tallied, net_at_small}
@@ -9,10 +9,10 @@ turn : (g : given.Over) (c : goal.After-from-total g) → Tallied (λ e. nat_abs
 turn g c =
     tallied _
     (λ e. omega (arith, net_at_small (g.H.Holds.held c.args.holder.now) c.args.sheet.now (g.H.Holds.sound c.args.holder.now) e))
-    c.loop-e.e (omega arith) c.loop-e.total c.from-total.result c.loop-e.invariant (c.from-total.ensures ∙ c.net-size.ensures)
+    c.loop-e.e (omega arith) c.loop-e.total c.from-total.result c.loop-e.invariant (c.from-total.ensures ∙ c.net_size.ensures)
 
-pub overflow-add-total : goal.overflow-add-total
-overflow-add-total g c = (turn g c).ranges
+pub overflow_add-total : goal.overflow_add-total
+overflow_add-total g c = (turn g c).fits
 
 pub loop-e-preserved : goal.loop-e-preserved
 loop-e-preserved g c = (turn g c).is

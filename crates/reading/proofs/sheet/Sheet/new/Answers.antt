@@ -1,13 +1,12 @@
-use Rattle.std.proofs.Common.{◌≡◌, ℕ, ◌<◌, false, pos, arith}
-use Rattle.terms.specs.Bounds.{most_contracts}
+use Rattle.std.proofs.Common.{false, pos, arith}
 use Rattle.reading.specs.Sheets.{weight_of, lacks_delta}
 use Rattle.reading.proofs.Sheets.{array_small, filled, weightless, lackless}
 use Rattle.reading.proofs.sheet.Sheet.new.Goals as goal
 
-pub invariant-of-result : goal.invariant-of-result
-invariant-of-result g c =
+pub invariant_of-result : goal.invariant_of-result
+invariant_of-result g c =
     let d = g.D.Delta.answer c.args.source.now in
-    (array_small c.args.contracts.now c.args.underlying d (g.D.Delta.lawful c.args.source.now) c.loop-c.weights c.loop-c.invariant.0 (λ k l. c.loop-c.invariant.2 k (omega arith)), tt)
+    record { bounded = array_small c.args.contracts.now c.args.underlying d (g.D.Delta.lawful c.args.source.now) c.loop-c.weights c.loop-c.invariant.0 (λ k l. c.loop-c.invariant.2 k (omega arith)) }
 
 pub returns : goal.returns
 returns g c =
