@@ -6,7 +6,6 @@ use Rattle.reading.specs.Views.{weights_of}
 use Rattle.rules.specs.Charge.{charge_of}
 use Rattle.stock.specs.Close.{judges, obeys, violated_by, closed_base, closed_violated, closed_charge, charged_count, base_of, row_of}
 use Rattle.stock.proofs.Moves.{no_row, row_more, no_base, found_same, base_more, charged_more, charged_few, byte_le, charge_found}
-use Rattle.stock.proofs.base.Base.close.Given as given
 use Rattle.stock.proofs.base.Base.close.Goals as goal
 
 pub loop-e-init : goal.loop-e-init
@@ -21,8 +20,8 @@ loop-e-init g c =
       refl,
     )
 
-pub overflow-add-count : goal.overflow-add-count
-overflow-add-count g c =
+pub overflow_add-count : goal.overflow_add-count
+overflow_add-count g c =
     let w = weights_of c.args.closing.two.now in
     let old = base_of c.args.self.now.cells in
     let book = (g.B.Holds.held c.args.book.now).at in
@@ -44,7 +43,7 @@ loop-e-preserved g c =
     let r = found_same s t w old book i q c.loop-e.invariant.0 c.judge-charged.result c.judge-charged.ensures in
     let in_v : i < length c.loop-e.violated = search rules in
     let in_c : i < length c.loop-e.charges = search rules in (
-      base_more s t w old book i q c.loop-e.invariant.0 c.judge-charged.result.0 _ (ap (λ p. p.0) r) c.close-entity.ensures,
+      base_more s t w old book i q c.loop-e.invariant.0 c.judge-charged.result.0 _ (ap (λ p. p.0) r) c.close_entity.ensures,
       row_more j v c.loop-e.violated i _ in_v (ap (λ p. p.1) r) c.loop-e.invariant.1,
       row_more j (λ e. charge_of (v e) c.args.closing.price) c.loop-e.charges i _ in_c (charge_found j (v i) c.args.closing.price _ _ (ap (λ p. p.1) r) c.charge.ensures) c.loop-e.invariant.2,
       charged_more (λ e. j && not (obeys w old book e)) i _ _ c.loop-e.invariant.3 (c.from-count.ensures ∙ ap (λ p. bool_byte p.0) r),

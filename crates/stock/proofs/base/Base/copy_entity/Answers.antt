@@ -5,7 +5,7 @@ use Rattle.reading.specs.Sheets.{within}
 use Rattle.stock.specs.Close.{base_of}
 use Rattle.stock.proofs.Moves.{none, one, skip, ended}
 use Rattle.stock.proofs.base.Base.copy_entity.Goals as goal
-use Rattle.stock.proofs.base.Base.copy_entity.Goals.{then-is-within, else-is-within}
+use Rattle.stock.proofs.base.Base.copy_entity.Goals.{then-is_within, else-is_within}
 
 pub loop-c-init : goal.loop-c-init
 loop-c-init g c = none _ _ _ _
@@ -16,11 +16,11 @@ loop-c-preserved g c =
     let row = (g.H.Holds.held c.args.from.now).at c.args.entity in
     let old = base_of c.args.self.now.cells in
     let q = base_of c.loop-c.self.cells in
-    elim c.if-is-within.branch [
-      | then-is-within w ↦
-          simp w.self-is (one s c.args.entity row old c.loop-c.c q _ _ c.loop-c.invariant c.is-within.ensures w.if-is-within.true w.copy-pair.ensures)
-      | else-is-within w ↦
-          simp w.self-is (skip s c.args.entity row old c.loop-c.c q _ c.loop-c.invariant c.is-within.ensures w.if-is-within.false)
+    elim c.if-is_within.branch [
+      | then-is_within w ↦
+          simp w.self-is (one s c.args.entity row old c.loop-c.c q _ _ c.loop-c.invariant c.is_within.ensures w.if-is_within.true w.copy_pair.ensures)
+      | else-is_within w ↦
+          simp w.self-is (skip s c.args.entity row old c.loop-c.c q _ c.loop-c.invariant c.is_within.ensures w.if-is_within.false)
     ]
 
 pub returns : goal.returns

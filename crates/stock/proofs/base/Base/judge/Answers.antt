@@ -9,5 +9,5 @@ returns g c =
     let x : to_z w64 (of_z w64 c.net-x.result) ≡ c.net-x.result = omega (arith, ints) in
     let y : to_z w64 (of_z w64 c.net-y.result) ≡ c.net-y.result = omega (arith, ints) in
     judged c.args.closing.turn _ _ _ c.args.entity _ _ _ _ (sym c.judges.ensures ∙ c.if-not-judges.false) c.net-x.ensures c.net-y.ensures
-    (c.lies-between.ensures ∙ ap₂ between x y)
+    (c.lies_between.ensures ∙ ap₂ between x y)
     (c.violated.ensures ∙ ap₂ violation x y)

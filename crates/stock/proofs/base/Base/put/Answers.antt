@@ -6,13 +6,13 @@ use Rattle.stock.specs.Close.{base_of}
 use Rattle.stock.proofs.Cells.{still_small, written}
 use Rattle.stock.proofs.base.Base.put.Goals as goal
 
-pub invariant-of-self : goal.invariant-of-self
-invariant-of-self c =
+pub invariant_of-self : goal.invariant_of-self
+invariant_of-self c =
     let cells = c.args.self.now.cells in
     let full : length cells ≡ most_pairs = search rules in
     let e = c.requires.entity in
     let k = c.requires.contract in
-    (still_small cells _ _ c.args.self.now.small (rw (stored c.args.quantity c.requires.small) c.requires.small) (omega arith), tt)
+    record { small = still_small cells _ _ c.args.self.now.small (rw (stored c.args.quantity c.requires.small) c.requires.small) (omega arith) }
 
 pub returns : goal.returns
 returns c =
