@@ -4,7 +4,6 @@
 pub mod bounds;
 pub mod mixed;
 pub mod mixing;
-pub mod nosource;
 pub mod notional;
 pub mod published;
 pub mod settlement;

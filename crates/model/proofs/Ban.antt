@@ -1,7 +1,7 @@
 -- The stock's ban over runs.
 use Rattle.std.proofs.Common.{◌≡◌, ℕ, ◌<◌, ◌≤◌, Bool, true, false, cond, eqb, ltb, List, ℤ, pos, ◌*ℤ◌, sym, refl, ap, ◌∙◌, subst, le_refl}
 use mathlib.Core.Path.{fun_ext}
-use lib.IntN.{zero_*ℤ, *ℤ-zero}
+use lib.IntN.{zero-*ℤ, *ℤ-zero}
 use Rattle.std.proofs.lemmas.Bool.{eq-eqb, cond-true, lt-ltb}
 use Rattle.terms.specs.Bounds.{most_contracts}
 use Rattle.delta.specs.Sources.{Source}
@@ -34,7 +34,7 @@ unfolding net
 net_zero l u d q e h = total_zero most_contracts _ (λ c. go c (within l.contracts u c) (h c))
   where
     go : (c : ℕ) (b : Bool) → (b ≡ true → q e c ≡ pos 0) → q e c *ℤ cond b (or_zero (d.delta c (contract_at l.contracts c).kind)) (pos 0) ≡ pos 0
-    go c true f = ap (λ (z : ℤ). z *ℤ or_zero (d.delta c (contract_at l.contracts c).kind)) (f refl) ∙ zero_*ℤ (or_zero (d.delta c (contract_at l.contracts c).kind))
+    go c true f = ap (λ (z : ℤ). z *ℤ or_zero (d.delta c (contract_at l.contracts c).kind)) (f refl) ∙ zero-*ℤ (or_zero (d.delta c (contract_at l.contracts c).kind))
     go c false f = *ℤ-zero (q e c)
 
 module _ (t : Listing) (s : Ledger) (u : ℕ) (two d : Source) (ban : (s.stocks u).ban ≡ true) where
