@@ -34,7 +34,7 @@ pub fn skip(words: Words<'_>, n: usize) -> Words<'_>
 
 // Whether each of the next `n` words is a value of the type.
 pub fn all_are<T: Worded + Drop>(words: Words<'_>, n: usize) -> bool
-    ensures { result ≡ all_are worded (take n (to_come words.entry)) }
+    ensures { result ≡ all_are T.worded (take n (to_come words.entry)) }
 {
     let mut rest = words;
     let mut left = n;
@@ -67,8 +67,8 @@ impl<'a> Tail<'a> {
 
     // Takes the next value, if there is one. The values end at a word that is none.
     pub fn next_value<T: Worded + Drop>(&mut self) -> Option<T>
-        ensures value { result ≡ first (values_of worded (tail_of self.old)) }
-        ensures rest { values_of worded (tail_of self.new) ≡ others (values_of worded (tail_of self.old)) }
+        ensures value { result ≡ first (values_of T.worded (tail_of self.old)) }
+        ensures rest { values_of T.worded (tail_of self.new) ≡ others (values_of T.worded (tail_of self.old)) }
     {
         if self.left == 0 {
             return None;
