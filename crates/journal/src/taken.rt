@@ -58,7 +58,7 @@ pub(crate) fn next_up_to(words: &mut Words<'_>, most: usize) -> Result<usize, Fa
 
 // Takes the next word, which must name something of its kind.
 pub(crate) fn next_named<T: Named + Drop>(words: &mut Words<'_>) -> Result<T, Fault>
-    ensures value { result ≡ next_named rows (to_come words.old) }
+    ensures value { result ≡ next_named T.rows (to_come words.old) }
     ensures rest { to_come words.new ≡ others (to_come words.old) }
 {
     match words.next_word() {
