@@ -1,5 +1,5 @@
 -- The stock's ban over runs.
-use Rattle.std.proofs.Common.{◌≡◌, ℕ, ◌<◌, ◌≤◌, Bool, true, false, cond, eqb, ltb, List, ℤ, pos, ◌*ℤ◌, sym, refl, ap, ◌∙◌, subst, le_refl}
+use Rattle.std.proofs.Common.{◌≡◌, ℕ, ◌<◌, Bool, true, false, cond, eqb, ltb, ℤ, pos, ◌*ℤ◌, sym, refl, ap, ◌∙◌, subst, le_refl}
 use mathlib.Core.Path.{fun_ext}
 use lib.IntN.{zero-*ℤ, *ℤ-zero}
 use Rattle.std.proofs.lemmas.Bool.{eq-eqb, cond-true, lt-ltb}
@@ -11,11 +11,11 @@ use Rattle.reading.specs.Readings.{net}
 use Rattle.rules.specs.Violation.{violation}
 use Rattle.rules.specs.Charge.{charge_of}
 use Rattle.stock.specs.Close.{judges, obeys, violated_by}
-use Rattle.model.specs.Opening.{Listing, terms_of}
+use Rattle.model.specs.Opening.{Listing}
 use Rattle.model.specs.State.{Quantities, Ledger, Stock, at}
 use Rattle.model.specs.Stocks.{weights, net_at, ban_ends, turn_at, base_after, closed_stock}
 use Rattle.model.specs.Calls.{close}
-use Rattle.model.specs.Runs.{Run, before, after, book_at, old_base, new_base, Accepted, CloseOf, charge_after, Between}
+use Rattle.model.specs.Runs.{Run, before, after, book_at, old_base, Accepted, charge_after, Between}
 use Rattle.model.specs.Handbook.{BaseShrinks, MarketShrinks, listing_of}
 use Rattle.model.proofs.Signs.{total_zero, sum_mono, between_self, between_zero, between_true, no_violation, between_size, free_of_charge}
 use Rattle.model.proofs.Places.{after_accepted}

@@ -1,17 +1,16 @@
 -- Limits refuse nothing: what is refused, and the ledger, come from the ledger and the calls alone.
-use Rattle.std.proofs.Common.{◌≡◌, ℕ, zero, suc, Bool, true, cond, not, List, ℤ, Some, None, Ok, Err, Option, Result, sym, refl, ap, ◌∙◌, ap₂}
+use Rattle.std.proofs.Common.{◌≡◌, ℕ, zero, suc, Bool, true, cond, not, List, ℤ, Some, None, Ok, Err, Option, sym, refl, ap, ◌∙◌, ap₂}
 use Rattle.std.specs.List.{slice_get}
 use Rattle.terms.specs.declared.refusal.Refusal.{Refusal}
 use Rattle.terms.specs.declared.refusal.Refusal.TheVariants.{Closed}
-use Rattle.book.specs.Holding.{Holding}
 use Rattle.book.proofs.Equal.{equal_is_same, same_is_equal}
 use Rattle.delta.specs.Sources.{Source, EqualSources}
 use Rattle.model.specs.Causes.{Verdict, cause_in}
 use Rattle.model.specs.Opening.{Listing, Terms, listing_from, terms_of, is_open}
 use Rattle.model.specs.State.{State, Ledger, new_ledger}
 use Rattle.model.specs.Calls.{Call, close, verdict, of_call, number, effect, done, decided}
-use Rattle.model.specs.Runs.{Run, before, after, next, refusal_of, refusal_at}
-use Rattle.model.specs.Handbook.{Same, same, closes, SameCalls, none, more, SameButLimits, Agree, LimitsRefuseNothing, listing_of}
+use Rattle.model.specs.Runs.{Run, before, next, refusal_of, refusal_at}
+use Rattle.model.specs.Handbook.{Same, same, closes, SameCalls, none, more, SameButLimits, LimitsRefuseNothing, listing_of}
 use Rattle.model.proofs.Places.{terms_stay}
 
 -- ---- calls that are the same but for sources equal in meaning

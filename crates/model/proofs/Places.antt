@@ -1,12 +1,12 @@
 -- Places of a run: what a declined call leaves, and the outcome of the calls before a place.
-use Rattle.std.proofs.Common.{◌≡◌, ℕ, zero, suc, List, [], ◌∷◌, ◌++◌, take, ℤ, Some, None, Ok, Err, Option, Result, sym, refl, ap, ◌∙◌, arith}
+use Rattle.std.proofs.Common.{◌≡◌, ℕ, zero, suc, List, [], ◌∷◌, ◌++◌, take, ℤ, Some, None, Ok, Err, Option, sym, refl, ap, ◌∙◌, arith}
 use Rattle.std.specs.List.{slice_get}
 use Rattle.terms.specs.declared.refusal.Refusal.{Refusal}
 use Rattle.model.specs.Causes.{Verdict, cause_in}
 use Rattle.model.specs.Opening.{Terms, terms_of}
 use Rattle.model.specs.State.{State, opened}
 use Rattle.model.specs.Calls.{Call, verdict, number, effect, done, decided, step}
-use Rattle.model.specs.Runs.{Run, before, after, next, refusal_of, refusal_at, outcome_from, Accepted}
+use Rattle.model.specs.Runs.{Run, before, after, next, refusal_of, outcome_from, Accepted}
 use Rattle.model.specs.Handbook.{Outcomes, GoesOn, DeclinedChangesNothing, TermsStay}
 
 -- ---- the outcome of the calls before a place

@@ -1,5 +1,5 @@
 -- A pair that no call posts to keeps its quantity.
-use Rattle.std.proofs.Common.{◌≡◌, ℕ, Bool, true, false, cond, ◌&&◌, ◌||◌, eqb, ℤ, neg_ℤ, Some, None, Ok, Err, Option, Result, sym, refl, ap, ◌∙◌, arith}
+use Rattle.std.proofs.Common.{◌≡◌, ℕ, Bool, true, false, ◌&&◌, ◌||◌, eqb, ℤ, neg_ℤ, Some, None, Ok, Err, Option, Result, sym, refl, ◌∙◌}
 use Rattle.std.proofs.lemmas.Bool.{cond-false}
 use Rattle.std.specs.List.{slice_get}
 use Rattle.terms.specs.declared.command.Trade.{Trade}
@@ -8,9 +8,9 @@ use Rattle.book.specs.Holding.{Holding, reply, posted, settle}
 use Rattle.model.specs.Causes.{Verdict}
 use Rattle.model.specs.Opening.{Listing}
 use Rattle.model.specs.State.{State, Ledger}
-use Rattle.model.specs.Custody.{off_member, transferred}
+use Rattle.model.specs.Custody.{off_member}
 use Rattle.model.specs.Calls.{Call, post, entry, confirm, set_limit, close, ticket_at, confirmed, verdict, number, effect, done, decided}
-use Rattle.model.specs.Runs.{Run, before, next, is_pair, in_trade, posts_to, posted_at}
+use Rattle.model.specs.Runs.{before, next, is_pair, in_trade, posts_to, posted_at}
 use Rattle.model.specs.Handbook.{OnlyPostingsMove}
 
 or_left : (a b : Bool) → a || b ≡ false → a ≡ false

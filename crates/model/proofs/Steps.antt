@@ -1,14 +1,14 @@
 -- A call's step, by the way that its causes go. What proves a monitor's code equal to the model cites these.
-use Rattle.std.proofs.Common.{◌≡◌, ℕ, Bool, true, false, cond, not, List, [], ◌∷◌, ℤ, Some, None, Ok, Err, Option, Result, sym, refl, ap, ◌∙◌, ap₂, arith}
+use Rattle.std.proofs.Common.{◌≡◌, ℕ, Bool, true, false, cond, not, List, [], ◌∷◌, ℤ, Some, None, Ok, Err, Option, sym, refl, ap, ◌∙◌, ap₂, arith}
 use Rattle.terms.specs.declared.command.Trade.{Trade}
 use Rattle.terms.specs.declared.refusal.Refusal.{Refusal}
 use Rattle.terms.specs.declared.refusal.Refusal.TheVariants.{Closed, Ticket}
 use Rattle.book.specs.Holding.{Holding, reply, posted, settle}
 use Rattle.model.specs.Causes.{Answer, Verdict, unless, verdict_of, number_in}
 use Rattle.model.specs.Opening.{is_open}
-use Rattle.model.specs.State.{State, Ledger, with_book, with_ticket}
-use Rattle.model.specs.Custody.{transfer_reply, transferred, leaves}
-use Rattle.model.specs.Calls.{Call, post, entry, confirm, ticket_at, entry_table, of_call, of_entry, of_confirm, confirm_reply, confirmed, closed_table, verdict, number, effect, done, decided, step}
+use Rattle.model.specs.State.{State, with_book, with_ticket}
+use Rattle.model.specs.Custody.{transfer_reply, transferred}
+use Rattle.model.specs.Calls.{Call, post, entry, confirm, ticket_at, entry_table, of_call, of_confirm, confirm_reply, confirmed, closed_table, verdict, number, done, decided, step}
 
 -- ---- tables of causes
 

@@ -9,9 +9,9 @@ use Rattle.rules.specs.Violation.{violation}
 use Rattle.rules.specs.Charge.{charge_of}
 use Rattle.stock.specs.Close.{in_force, turn_of, obeys, violated_by}
 use Rattle.model.specs.Causes.{Verdict, cause_in}
-use Rattle.model.specs.Opening.{Listing, Terms, terms_of}
+use Rattle.model.specs.Opening.{Listing, Terms}
 use Rattle.model.specs.State.{State, Ledger, Stock}
-use Rattle.model.specs.Stocks.{weights, net_at, turn_at, ban_begins, ban_ends, base_after, closed_stock}
+use Rattle.model.specs.Stocks.{weights, net_at, ban_begins, ban_ends, base_after}
 use Rattle.model.specs.Calls.{Call, post, entry, confirm, set_limit, close, verdict, number, done, decided, step}
 use Rattle.model.specs.Runs.{Run, before, after, next, refusal_of, book_at, old_base, new_base, Accepted, Banned, BanStart, CloseOf, charge_after}
 use Rattle.model.specs.Handbook.{listing_of, Unmoved, UnmovedIsFree}

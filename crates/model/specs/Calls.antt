@@ -1,5 +1,5 @@
 -- The calls: the causes of refusal in the table's order, the answers, and what an accepted call makes of a monitor.
-use Rattle.std.specs.Prelude.{ℕ, Bool, false, cond, not, List, [], ◌∷◌, ℤ, pos, is_some, Some, None, Ok, Err, Option, Result, ◌==◌, nat_lt}
+use Rattle.std.specs.Prelude.{ℕ, Bool, false, cond, not, List, [], ◌∷◌, ℤ, pos, is_some, Some, None, Ok, Err, Option, ◌==◌, nat_lt}
 use Rattle.terms.specs.Bounds.{ticket_count}
 use Rattle.terms.specs.declared.command.Trade.{Trade}
 use Rattle.terms.specs.declared.kind.Kind.{Kind}
@@ -14,7 +14,7 @@ use Rattle.reading.specs.Missing.{holds, missing}
 use Rattle.rules.specs.Limit.{limit_of}
 use Rattle.model.specs.Causes.{Answer, Verdict, unless, verdict_of, number_in}
 use Rattle.model.specs.Opening.{Listing, Terms, is_open}
-use Rattle.model.specs.State.{Ledger, Marks, State, with_book, with_ticket}
+use Rattle.model.specs.State.{Ledger, State, with_book, with_ticket}
 use Rattle.model.specs.Custody.{transferred, transfer_reply}
 use Rattle.model.specs.Stocks.{of_limit, of_close, limit_in, charged_at, closed, limited}
 

@@ -1,7 +1,6 @@
 -- Confirmation of a custodial trade: off the member, then onto the participant, both or neither.
-use Rattle.std.specs.Prelude.{ℕ, ℤ, neg_ℤ, Ok, Err, Result}
+use Rattle.std.specs.Prelude.{neg_ℤ, Ok, Err}
 use Rattle.terms.specs.declared.command.Trade.{Trade}
-use Rattle.terms.specs.declared.refusal.Refusal.{Refusal}
 use Rattle.book.specs.Holding.{Holding, reply, posted}
 use Rattle.model.specs.Causes.{Answer}
 

@@ -1,5 +1,5 @@
 -- What stands between calls.
-use Rattle.std.specs.Prelude.{ℕ, Bool, false, cond, ℤ, pos, Some, None, Option, ◌==◌}
+use Rattle.std.specs.Prelude.{ℕ, Bool, false, cond, ℤ, pos, None, Option, ◌==◌}
 use Rattle.terms.specs.declared.command.Trade.{Trade}
 use Rattle.terms.specs.declared.mark.Mark.{Mark}
 use Rattle.book.specs.Holding.{Holding}
