@@ -1,5 +1,5 @@
 -- A new monitor's tables hold nothing.
-use Rattle.std.proofs.Common.{◌≡◌, ℕ, Bool, true, false, T, get_or, replicate, pos, None, Option, refl, ap, ◌∙◌}
+use Rattle.std.proofs.Common.{◌≡◌, ℕ, false, T, get_or, replicate, pos, None, Option, refl, ap, ◌∙◌}
 use Rattle.terms.specs.Bounds.{most_entities, most_underlyings, ticket_count}
 use Rattle.terms.specs.declared.command.Trade.{Trade}
 use Rattle.terms.specs.declared.mark.Mark.{Mark}

@@ -1,11 +1,11 @@
 -- What an open monitor's terms keep to.
-use Rattle.std.proofs.Common.{◌≡◌, ℕ, zero, suc, ◌+◌, ◌≤◌, Bool, true, false, cond, not, ◌&&◌, eqb, leb, List, ◌∷◌, length, Ok, refl, arith}
+use Rattle.std.proofs.Common.{◌≡◌, ℕ, zero, suc, ◌≤◌, Bool, true, false, cond, not, List, ◌∷◌, length, Ok, refl, arith}
 use Rattle.std.proofs.lemmas.Bool.Decides.{nat_tests}
-use Rattle.terms.specs.Bounds.{most_entities, most_contracts, most_underlyings, amount_bound}
+use Rattle.terms.specs.Bounds.{most_entities, most_contracts, most_underlyings}
 use Rattle.terms.specs.declared.refusal.Refusal.{Refusal}
 use Rattle.reading.specs.Sums.{count_below}
 use Rattle.model.specs.Causes.{unless}
-use Rattle.model.specs.Opening.{Terms, in_range, all_sound, is_open}
+use Rattle.model.specs.Opening.{Terms, is_open}
 
 pub open_underlyings : (t : Terms) → is_open t ≡ true → length t.listing.underlyings ≤ most_underlyings
 open_underlyings t h = grind (arith, nat_tests)

@@ -1,5 +1,5 @@
 -- Lists of one value, and facts of every place of a list.
-use Rattle.std.proofs.Common.{◌≡◌, ℕ, zero, suc, eqb, List, [], ◌∷◌, get_or, replicate, refl}
+use Rattle.std.proofs.Common.{◌≡◌, ℕ, zero, suc, eqb, [], get_or, replicate, refl}
 use Rattle.std.proofs.lemmas.Bool.{cond_both}
 use Rattle.model.specs.State.{at}
 

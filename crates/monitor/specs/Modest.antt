@@ -1,5 +1,5 @@
 -- The change that a ticket may hold: that of a posting that was accepted.
-use Rattle.std.specs.Prelude.{ℕ, ◌*◌, Bool, true, Some, None, Option, nat_le, unsigned_abs}
+use Rattle.std.specs.Prelude.{◌*◌, Bool, true, Some, None, Option, nat_le, unsigned_abs}
 use Rattle.terms.specs.Bounds.{quantity_bound}
 use Rattle.terms.specs.declared.command.Trade.{Trade}
 

@@ -1,4 +1,4 @@
-use Rattle.std.proofs.Common.{◌≡◌, ◌≤◌, Err, sym, refl, ap, ◌∙◌, ap₂, w64, SFits, rules}
+use Rattle.std.proofs.Common.{sym, ap, ◌∙◌, ap₂, w64, SFits, rules}
 use Rattle.std.proofs.lemmas.Int.{to_z-of_z}
 use Rattle.book.specs.Holding.{reply, posted}
 use Rattle.book.proofs.Posts.{posted_declined}

@@ -1,5 +1,5 @@
-use Rattle.std.proofs.Common.{◌≡◌, sym, ◌∙◌}
-use Rattle.std.proofs.lemmas.List.{get_or_past, get_or_default}
+use Rattle.std.proofs.Common.{sym}
+use Rattle.std.proofs.lemmas.List.{get_or_past}
 use Rattle.monitor.proofs.stocks.at_or.Goals as goal
 
 pub returns-else-place-row : goal.returns-else-place-row

@@ -1,4 +1,4 @@
-use Rattle.std.proofs.Common.{◌≡◌, ℕ, ◌<◌, ◌≤◌, min, Bool, length, ℤ, sym, refl, ap, ◌∙◌, ap₂, rules}
+use Rattle.std.proofs.Common.{◌≡◌, ℕ, ◌<◌, min, length, ℤ, refl, ap, ◌∙◌, ap₂, rules}
 use native.Mathlib.Nat.{min-eq_left}
 use Rattle.terms.specs.Bounds.{most_entities}
 use Rattle.book.specs.Holding.{quantity_of}
@@ -25,7 +25,7 @@ returns g c =
     let most : min n most_entities ≡ n = min-eq_left c.requires.entities in
     let turn : c.decide-turn.result ≡ turn_by s u oi =
     c.decide-turn.ensures
-    ∙ ap₂ (λ (l o : ℕ). turn_of (bans_of s.bans u) (begins l o) (ends l o)) (c.unwrap-or-limit.ensures ∙ limit_in_is (limits_of s.limits u)) c.interest.ensures in
+    ∙ ap₂ (λ (l o : ℕ). turn_of (bans_of s.bans u) (begins l o) (ends l o)) (c.unwrap_or-limit.ensures ∙ limit_in_is (limits_of s.limits u)) c.interest.ensures in
     let t = c.close-charged.ensures in
     let k : Stock = stock_by s u n oi w old q c.args.price in
     let nb : u < length s.bans = search rules in
@@ -36,7 +36,7 @@ returns g c =
       base = t.base ∙ ap₂ (λ (m : ℕ) (x : Turn). closed_base m (within c.args.contracts.now u) x w old q) most turn;
       stocks =
           one_stock s.limits s.bans s.violated s.charges u _ _ _ k nb nv nc refl
-          (c.in-force.ensures ∙ ap in_force turn)
+          (c.in_force.ensures ∙ ap in_force turn)
           (t.violated ∙ ap₂ (λ (m : ℕ) (x : Turn). closed_violated m x w old q) most turn)
           (t.charges ∙ ap₂ (λ (m : ℕ) (x : Turn). closed_charge m x w old q c.args.price) most turn);
       rest = (refl, refl, refl);

@@ -8,16 +8,16 @@ use Rattle.monitor.specs.View.{fixed_of, ledger_of, marks_of}
 use Rattle.monitor.proofs.New.{tickets_modest}
 use Rattle.monitor.proofs.state.Monitor.open.Goals as goal
 
-pub invariant-of-result : goal.invariant-of-result
-invariant-of-result g c = (subst (λ (ts : List (Option Trade)). (k : ℕ) → T (modest (get_or ts k None))) (sym c.new-inner.ensures.tickets) tickets_modest, tt)
+pub invariant_of-result : goal.invariant_of-result
+invariant_of-result g c = record { modest = subst (λ (ts : List (Option Trade)). (k : ℕ) → T (modest (get_or ts k None))) (sym c.new-inner.ensures.tickets) tickets_modest }
 
 pub returns : goal.returns
 returns g c =
     let b : Holding = g.B.Holds.held c.args.book.now in
-    let t : Terms = terms_of (opening_from b c.args.contracts.now c.args.underlyings.now c.args.net-limit c.args.gross-limit) in
+    let t : Terms = terms_of (opening_from b c.args.contracts.now c.args.underlyings.now c.args.net_limit c.args.gross_limit) in
     let fixed : fixed_of c.new-fixed.result ≡ t =
     c.new-fixed.ensures
-    ∙ ap (λ x. terms_from (listing_from x.entities x.contracts c.args.contracts.now c.args.underlyings.now) c.args.net-limit c.args.gross-limit) c.shape-shape.ensures in
+    ∙ ap (λ x. terms_from (listing_from x.entities x.contracts c.args.contracts.now c.args.underlyings.now) c.args.net_limit c.args.gross_limit) c.shape-shape.ensures in
     let mk : Terms → Ledger → Marks → State = λ t l m. record { terms = t; ledger = l; marks = m } in
     record {
       state =

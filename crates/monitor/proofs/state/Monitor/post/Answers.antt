@@ -1,4 +1,4 @@
-use Rattle.std.proofs.Common.{◌≡◌, sym, refl, ap, ◌∙◌, ap₂, w64}
+use Rattle.std.proofs.Common.{sym, refl, ap, ◌∙◌, ap₂, w64}
 use Rattle.std.proofs.lemmas.Int.{to_z-of_z}
 use Rattle.book.specs.Holding.{Holding, reply, posted}
 use Rattle.model.specs.Causes.{Answer}
