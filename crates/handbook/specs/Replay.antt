@@ -1,5 +1,5 @@
 -- What replaying a list of commands does, and what holds of every run.
-use Rattle.std.specs.Prelude.{◌≡◌, ℕ, Bool, cond, List, ◌++◌, map, length, drop, nat_le}
+use Rattle.std.specs.Prelude.{◌≡◌, Bool, cond, List, ◌++◌, map, length, drop, nat_le}
 use Rattle.terms.specs.declared.command.Command.{Command}
 use Rattle.terms.specs.declared.command.Command.TheVariants.{Post, Entry, Confirm}
 use Rattle.model.specs.Causes.{Answer}

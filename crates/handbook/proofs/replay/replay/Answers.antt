@@ -1,11 +1,10 @@
-use Rattle.std.proofs.Common.{◌≡◌, ℕ, ◌≤◌, Bool, true, false, leb, List, ◌++◌, length, get_or, drop, pos, sym, refl, ap, ◌∙◌, arith}
+use Rattle.std.proofs.Common.{◌≡◌, ℕ, leb, List, ◌++◌, length, get_or, drop, pos, sym, refl, ap, ◌∙◌, arith}
 use Rattle.std.proofs.lemmas.List.{length-map, get_or_default}
 use Rattle.std.proofs.lemmas.Bool.{le-leb, lt-leb}
 use Rattle.terms.specs.declared.command.Command.TheVariants.{Post}
-use Rattle.model.specs.Causes.{Answer}
 use Rattle.model.specs.State.{State}
 use Rattle.model.specs.Calls.{Call}
-use Rattle.model.specs.Runs.{Run, outcome_from, answers_from}
+use Rattle.model.specs.Runs.{outcome_from, answers_from}
 use Rattle.model.proofs.Places.{goes_on}
 use Rattle.model.proofs.Rules.{rules}
 use Rattle.monitor.specs.View.{state_of}
