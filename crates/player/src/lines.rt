@@ -9,11 +9,11 @@ pub(crate) struct Lines<R> {
 }
 
 impl<R: Read + Drop> Lines<R> {
-    pub(crate) fn new(heap: Global, input: R) -> Lines<R> {
-        Lines {
-            input: BufReader::new(input),
+    pub(crate) fn new(heap: Global, input: R) -> anyhow::Result<Lines<R>> {
+        Ok(Lines {
+            input: BufReader::new(heap, input)?,
             line: Vec::new(heap),
-        }
+        })
     }
 
     // Goes to the next line, without its line feed; false at the end of the input.

@@ -79,7 +79,7 @@ fn serve_all<R: Read + Drop, W: Write + Drop, B: Book>(
 // Plays the journal from the input, and prints what it did.
 pub fn play<R: Read + Drop>(rt: &HostRuntime, input: R) -> anyhow::Result<()> {
     let mut out = BufWriter::new(rt.alloc(), rt.stdout())?;
-    let mut lines = Lines::new(rt.alloc(), input);
+    let mut lines = Lines::new(rt.alloc(), input)?;
     let mut tally = Tally::new();
     let mut setup = Setup::new();
     declare_all(&mut lines, &mut out, &mut tally, &mut setup)?;
