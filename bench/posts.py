@@ -2,7 +2,7 @@
 """A million postings through the program from a pipe, beside the same in plain release Rust (plain.rs).
 
 Prints seconds and peak memory of each, and fails where their outputs differ. Run from the repository's root after
-`rt check futeq`; needs rustc.
+`rt run` in crates/futeq; needs rustc.
 """
 import os
 import random
@@ -48,9 +48,9 @@ def play(program, text, out):
 
 def main():
     root = os.path.dirname(os.path.dirname(os.path.abspath(__file__)))
-    futeq = os.path.join(root, "target", "bin", "futeq")
+    futeq = os.path.join(root, "crates", "futeq", "out", "futeq")
     if not os.path.exists(futeq):
-        sys.exit("build the program first: rt check futeq")
+        sys.exit("build the program first: (cd crates/futeq && rt run -- --help)")
     with tempfile.TemporaryDirectory() as folder:
         plain = os.path.join(folder, "plain")
         subprocess.run(["rustc", "-O", "-o", plain, os.path.join(root, "bench", "plain.rs")], check=True)

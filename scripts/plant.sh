@@ -20,14 +20,14 @@ text = open(sys.argv[2]).read()
 assert text.count(parts["old"]) == 1, "the old text must stand once"
 open(sys.argv[2], "w").write(text.replace(parts["old"], parts["new"]))
 PY
-    out=$(rt dev "$crate" 2>&1)
+    out=$(cd "crates/$crate" && rt check 2>&1)
     cp "$kept" "$file"
     rm -f "$kept"
     if echo "$out" | grep -q '^logic=proved'; then
         echo "$crate/$label: STILL PROVED"
         status=1
     else
-        echo "$crate/$label: refused: $(echo "$out" | grep -m1 -E 'does not close|error' | cut -c1-160)"
+        echo "$crate/$label: refused: $(echo "$out" | grep -m1 -E 'did not prove|it is not proved|error' | cut -c1-160)"
     fi
 done
 exit $status

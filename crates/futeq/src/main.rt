@@ -4,6 +4,7 @@
 use player::play::play;
 use std::env;
 use std::fs::File;
+use std::process::ExitCode;
 
 const USAGE: &str = "usage: futeq [JOURNAL]
 Replays the journal from the file, or from standard input where none is named: opens a monitor,
@@ -24,12 +25,12 @@ fn run(rt: &HostRuntime) -> anyhow::Result<()> {
     }
 }
 
-fn main(rt: HostRuntime) -> anyhow::Result<()> {
+fn main(rt: HostRuntime) -> ExitCode {
     match run(&rt) {
-        Ok(()) => Ok(()),
+        Ok(()) => ExitCode::SUCCESS,
         Err(error) => {
             let _ = eprintln!(rt; "futeq: {error}");
-            Err(error)
+            ExitCode::FAILURE
         }
     }
 }
