@@ -1,1 +1,4 @@
 pub mod Taking
+pub mod Filling
+pub mod Parting
+pub mod Tables

@@ -1,4 +1,4 @@
-// The journal's lines: what each says.
+// The journal: what a line says, or why it is malformed.
 #![tactic(auto)]
 
 pub mod bounds;
