@@ -4,28 +4,18 @@ use Rattle.terms.specs.declared.command.Command.{Command}
 use Rattle.terms.specs.declared.command.Command.TheVariants.{Post, Entry, Confirm}
 use Rattle.model.specs.Causes.{Answer}
 use Rattle.model.specs.State.{State}
-use Rattle.handbook.specs.Deliveries.{days_in}
-use Rattle.delta.specs.Sources.{Source}
-use Rattle.handbook.specs.declared.request.Request.{Request}
-use Rattle.handbook.specs.declared.request.Request.TheVariants.{Posting, SetLimit, Close}
-use Rattle.model.specs.Calls.{Call, post, entry, confirm, set_limit, close}
+use Rattle.model.specs.Calls.{Call, post, entry, confirm}
 use Rattle.model.specs.Runs.{Run, outcome_from, answers_from, outcome, followed_by}
 use Rattle.model.specs.Handbook.{Handbook}
 
 -- the call that a command stands for
-abbrev pub posting : Command → Call
-posting (Post e c x) = post e c x
-posting (Entry k d) = entry k d
-posting (Confirm k) = confirm k
+abbrev pub meant : Command → Call
+meant (Post e c x) = post e c x
+meant (Entry k d) = entry k d
+meant (Confirm k) = confirm k
 
--- the call that a request stands for, by what its sources mean
-abbrev pub meant : {D : Type 0} → (D → Source) → Request D → Call
-meant priced (Posting k) = posting k
-meant priced (SetLimit u f ds) = set_limit u f (days_in ds.days ds.count)
-meant priced (Close u two d) = close u (priced two) (priced d)
-
-abbrev pub calls : {D : Type 0} → (D → Source) → List (Request D) → List Call
-calls priced rs = map (meant priced) rs
+abbrev pub calls : List Command → List Call
+calls cs = map meant cs
 
 -- the calls cs were replayed on the monitor s with these rows, which left s' and rows'; did tells whether they were made
 pub record Replayed (s : State) (cs : List Call) (rows : List Answer) (did : Bool) (s' : State) (rows' : List Answer) : Type 0 where

@@ -2,4 +2,3 @@
 #![tactic(auto)]
 
 pub mod replay;
-pub mod request;

@@ -1,4 +1,1 @@
 pub mod Taking
-pub mod Filling
-pub mod Parting
-pub mod Tables

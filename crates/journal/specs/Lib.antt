@@ -1,5 +1,4 @@
 pub mod Bounds
 pub mod Forms
 pub mod Names
-pub mod Tails
 pub mod Taken

@@ -1,8 +1,6 @@
 -- The words of a line, taken one by one, each as what it must be.
-use Rattle.std.specs.Prelude.{ℕ, ◌-◌, Bool, false, cond, List, [], ◌∷◌, length, ℤ, pos, negsuc, Ok, Err, Option, Result, ◌==◌, nat_le}
+use Rattle.std.specs.Prelude.{ℕ, cond, List, [], ◌∷◌, length, ℤ, pos, negsuc, Ok, Err, Result, ◌==◌, nat_le}
 use Rattle.std.specs.Option.{ok_or}
-use Rattle.std.specs.Str.{bytes_eq}
-use Rattle.tails.specs.Tails.{all_are}
 pub use Rattle.text.specs.Numbers.{unsigned}
 use Rattle.text.specs.Numbers.{number_of}
 use Rattle.journal.specs.Names.{named}
@@ -17,19 +15,6 @@ then (Err e) f = Err e
 -- whether n words are left
 abbrev pub counted : ℕ → List (List ℕ) → Result (Unit {0}) Fault
 counted n ws = cond (length ws == n) (Ok tt) (Err WordCount)
-
--- how many words of a number of them are beyond n
-abbrev pub beyond : ℕ → ℕ → Result ℕ Fault
-beyond n count = cond (nat_le n count) (Ok (count - n)) (Err WordCount)
-
--- whether the next word is this name
-abbrev pub begins : List ℕ → List (List ℕ) → Bool
-begins name [] = false
-begins name (w ∷ ws) = bytes_eq w name
-
--- words that f reads as numbers
-abbrev pub all_read : {X : Type 0} → (List ℕ → Option X) → List (List ℕ) → Result (Unit {0}) Fault
-all_read f ws = cond (all_are f ws) (Ok tt) (Err NotNumber)
 
 -- the next word as a number
 abbrev pub next_number : List (List ℕ) → Result ℤ Fault

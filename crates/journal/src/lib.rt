@@ -1,4 +1,4 @@
-// The journal: what a line says, or why it is malformed.
+// The journal's lines: what each says.
 #![tactic(auto)]
 
 pub mod bounds;

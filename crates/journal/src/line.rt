@@ -34,55 +34,9 @@ pub enum Declaration {
     Open,
 }
 
-// Where a source's deltas come from.
-#[derive(Clone, Copy)]
-pub enum Make {
-    Published,
-    Settlement,
-}
-
-// A source, but for its rows.
-#[derive(Clone, Copy)]
-pub struct SourceHead {
-    pub make: Make,
-    pub minute: u64,
-    pub price: u64,
-    // How many rows stand in the line.
-    pub rows: usize,
-}
-
 #[derive(Clone, Copy)]
 pub enum Question {
-    Quantity {
-        entity: usize,
-        contract: usize,
-    },
-    Base {
-        entity: usize,
-        contract: usize,
-    },
-    Limit {
-        underlying: usize,
-    },
-    Ban {
-        underlying: usize,
-    },
-    Violated {
-        underlying: usize,
-        entity: usize,
-    },
-    Charge {
-        underlying: usize,
-        entity: usize,
-    },
-    Notional {
-        underlying: usize,
-    },
-    // No source stands for notional deltas.
-    Reading {
-        underlying: usize,
-        source: Option<SourceHead>,
-    },
+    Quantity { entity: usize, contract: usize },
 }
 
 #[derive(Clone, Copy)]
@@ -92,16 +46,4 @@ pub enum Line {
     Declare(Declaration),
     Call(Command),
     Ask(Question),
-    // `days` deliveries stand in the line.
-    SetLimit {
-        underlying: usize,
-        free_float: u64,
-        days: usize,
-    },
-    // The two o'clock source, then the closing source.
-    Close {
-        underlying: usize,
-        two: SourceHead,
-        closing: SourceHead,
-    },
 }

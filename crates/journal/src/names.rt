@@ -1,8 +1,8 @@
 // The words that name something. specs/Names.antt has the tables.
 ghost use Rattle.std.specs.Prelude.{◌≡◌, ℕ, List};
-ghost use Rattle.journal.specs.Names.{named, verbs, topics, layouts, makes, underlyings, kinds};
+ghost use Rattle.journal.specs.Names.{named, verbs, topics, layouts, underlyings, kinds};
 
-use super::line::{Layout, Make};
+use super::line::Layout;
 use terms::kind::{Kind, Underlying};
 use text::words::is;
 
@@ -18,8 +18,6 @@ pub(crate) enum Verb {
     Entry,
     Confirm,
     Ask,
-    Limit,
-    Close,
     // A word of the format that is not yet available.
     Later,
 }
@@ -28,13 +26,6 @@ pub(crate) enum Verb {
 #[derive(Clone, Copy)]
 pub(crate) enum Topic {
     Quantity,
-    Base,
-    Limit,
-    Ban,
-    Violated,
-    Charge,
-    Notional,
-    Reading,
     // A word of the format that is not yet available.
     Later,
 }
@@ -71,21 +62,15 @@ impl Named for Verb {
             Some(Verb::Confirm)
         } else if is(word, "ask") {
             Some(Verb::Ask)
-        } else if is(word, "limit") {
-            Some(Verb::Limit)
-        } else if is(word, "close") {
-            Some(Verb::Close)
-        } else if is(word, "snapshot") {
-            Some(Verb::Later)
-        } else if is(word, "cure") {
-            Some(Verb::Later)
-        } else if is(word, "cash") {
-            Some(Verb::Later)
-        } else if is(word, "holding") {
-            Some(Verb::Later)
-        } else if is(word, "settle") {
-            Some(Verb::Later)
-        } else if is(word, "report") {
+        } else if is(word, "snapshot")
+            || is(word, "cure")
+            || is(word, "cash")
+            || is(word, "holding")
+            || is(word, "settle")
+            || is(word, "report")
+            || is(word, "limit")
+            || is(word, "close")
+        {
             Some(Verb::Later)
         } else {
             None
@@ -99,21 +84,15 @@ impl Named for Topic {
     fn from_word(word: &[u8]) -> Option<Topic> {
         if is(word, "quantity") {
             Some(Topic::Quantity)
-        } else if is(word, "base") {
-            Some(Topic::Base)
-        } else if is(word, "limit") {
-            Some(Topic::Limit)
-        } else if is(word, "ban") {
-            Some(Topic::Ban)
-        } else if is(word, "violated") {
-            Some(Topic::Violated)
-        } else if is(word, "charge") {
-            Some(Topic::Charge)
-        } else if is(word, "notional") {
-            Some(Topic::Notional)
-        } else if is(word, "reading") {
-            Some(Topic::Reading)
-        } else if is(word, "mark") {
+        } else if is(word, "base")
+            || is(word, "limit")
+            || is(word, "ban")
+            || is(word, "violated")
+            || is(word, "charge")
+            || is(word, "mark")
+            || is(word, "reading")
+            || is(word, "notional")
+        {
             Some(Topic::Later)
         } else {
             None
@@ -159,20 +138,6 @@ impl Named for Kind {
             Some(Kind::Call)
         } else if is(word, "put") {
             Some(Kind::Put)
-        } else {
-            None
-        }
-    }
-}
-
-impl Named for Make {
-    ghost rows = { makes };
-
-    fn from_word(word: &[u8]) -> Option<Make> {
-        if is(word, "published") {
-            Some(Make::Published)
-        } else if is(word, "settlement") {
-            Some(Make::Settlement)
         } else {
             None
         }

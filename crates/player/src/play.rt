@@ -10,7 +10,6 @@ use book::row::Row;
 use journal::line::Layout;
 use monitor::state::Monitor;
 use opening::setup::Setup;
-use std::alloc::Global;
 use std::io::{BufWriter, Read, Write};
 
 // The lines up to the one that opens, or all of them where none does.
@@ -40,7 +39,6 @@ fn narrow(n: usize) -> u32 {
 
 // Opens a monitor over the book and takes the rest of the lines.
 fn serve_all<R: Read + Drop, W: Write + Drop, B: Book>(
-    heap: Global,
     lines: &mut Lines<R>,
     out: &mut BufWriter<W>,
     tally: &mut Tally,
@@ -73,7 +71,7 @@ fn serve_all<R: Read + Drop, W: Write + Drop, B: Book>(
             break;
         }
         tally.count_line();
-        serve(heap, out, tally, &mut monitor, lines.line())?;
+        serve(out, tally, &mut monitor, lines.line())?;
     }
     Ok(())
 }
@@ -91,14 +89,7 @@ pub fn play<R: Read + Drop>(rt: &HostRuntime, input: R) -> anyhow::Result<()> {
                 Layout::Grid => {
                     let mut cells = vec![in rt.alloc(); 0i64; book.places]?;
                     let mut grid = Grid::new(&mut cells, book.entities, book.contracts);
-                    serve_all(
-                        rt.alloc(),
-                        &mut lines,
-                        &mut out,
-                        &mut tally,
-                        &setup,
-                        &mut grid,
-                    )?;
+                    serve_all(&mut lines, &mut out, &mut tally, &setup, &mut grid)?;
                 }
                 Layout::List => {
                     let mut rows = vec![in rt.alloc(); Row {
@@ -110,14 +101,7 @@ pub fn play<R: Read + Drop>(rt: &HostRuntime, input: R) -> anyhow::Result<()> {
                         narrow(book.entities),
                         narrow(book.contracts),
                     );
-                    serve_all(
-                        rt.alloc(),
-                        &mut lines,
-                        &mut out,
-                        &mut tally,
-                        &setup,
-                        &mut list,
-                    )?;
+                    serve_all(&mut lines, &mut out, &mut tally, &setup, &mut list)?;
                 }
             }
         }

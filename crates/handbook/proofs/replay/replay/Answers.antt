@@ -1,25 +1,24 @@
-use Rattle.std.proofs.Common.{◌≡◌, ℕ, leb, List, ◌++◌, map, length, drop, sym, refl, ap, ◌∙◌, arith}
-use Rattle.std.proofs.lemmas.List.{length-map}
+use Rattle.std.proofs.Common.{◌≡◌, ℕ, leb, List, ◌++◌, length, get_or, drop, pos, sym, refl, ap, ◌∙◌, arith}
+use Rattle.std.proofs.lemmas.List.{length-map, get_or_default}
 use Rattle.std.proofs.lemmas.Bool.{le-leb, lt-leb}
-use Rattle.delta.specs.Sources.{source_of}
+use Rattle.terms.specs.declared.command.Command.TheVariants.{Post}
 use Rattle.model.specs.State.{State}
 use Rattle.model.specs.Calls.{Call}
 use Rattle.model.specs.Runs.{outcome_from, answers_from}
 use Rattle.model.proofs.Places.{goes_on}
 use Rattle.model.proofs.Rules.{rules}
 use Rattle.monitor.specs.View.{state_of}
-use Rattle.handbook.specs.Replay.{meant}
+use Rattle.handbook.specs.Replay.{meant, calls}
 use Rattle.handbook.proofs.Turns.{one_more, answer_more, all_calls, rows_more}
 use Rattle.handbook.proofs.replay.replay.Goals as goal
 
-pub returns-then-requests-answers : goal.returns-then-requests-answers
-returns-then-requests-answers g c =
-    let cs = c.args.requests.now in
-    let f = meant (source_of g.D.Delta.answer g.D.PricedDelta.at g.D.PricedDelta.worth) in
-    let n = length-map cs f in
+pub returns-then-commands-answers : goal.returns-then-commands-answers
+returns-then-commands-answers g c =
+    let cs = c.args.commands.now in
+    let n = length-map cs meant in
     record {
       run = record {
-        made = sym (ap (λ (k : ℕ). leb k (length c.args.answers.now)) n ∙ lt-leb _ _ c.if-requests-answers.true);
+        made = sym (ap (λ (k : ℕ). leb k (length c.args.answers.now)) n ∙ lt-leb _ _ c.if-commands-answers.true);
         leaves = refl;
         tells = refl;
         continues = λ r e. refl;
@@ -31,39 +30,37 @@ returns-then-requests-answers g c =
 pub loop-i-preserved : goal.loop-i-preserved
 loop-i-preserved g c =
     let s = state_of g.B.Holds.held c.args.monitor.now in
-    let cs = c.args.requests.now in
+    let cs = c.args.commands.now in
     let i = c.loop-i.i in
     let t = state_of g.B.Holds.held c.loop-i.monitor in
     let u = state_of g.B.Holds.held c.apply.new.monitor in
-    let x = c.index-requests-i.result in
+    let x = get_or cs i (Post 0 0 (pos 0)) in
     let h = c.loop-i-test.true in
-    let e = c.index-requests-i.is in
-    let f = meant (source_of g.D.Delta.answer g.D.PricedDelta.at g.D.PricedDelta.worth) in
+    let e : x ≡ get_or cs i x = get_or_default cs i (Post 0 0 (pos 0)) x h in
     let inv = c.loop-i.invariant in (
-      one_more f s cs i x t u c.apply.result h e inv.0 c.apply.ensures.step,
-      rows_more f s cs i c.args.answers.now c.loop-i.answers c.apply.result h c.if-requests-answers.false inv.1
-          (answer_more f s cs i x t u c.apply.result h e inv.0 c.apply.ensures.step),
+      one_more meant s cs i x t u c.apply.result h e inv.0 c.apply.ensures.step,
+      rows_more meant s cs i c.args.answers.now c.loop-i.answers c.apply.result h c.if-commands-answers.false inv.1
+          (answer_more meant s cs i x t u c.apply.result h e inv.0 c.apply.ensures.step),
       c.apply.ensures.same ∙ inv.2,
     )
 
 pub returns : goal.returns
 returns g c =
     let s = state_of g.B.Holds.held c.args.monitor.now in
-    let cs = c.args.requests.now in
-    let f = meant (source_of g.D.Delta.answer g.D.PricedDelta.at g.D.PricedDelta.worth) in
-    let all = all_calls f cs c.loop-i.i c.loop-i-test.false in
-    let n = length-map cs f in
-    let ends : c.loop-i.i ≡ length (map f cs) = omega (arith, n) in
+    let cs = c.args.commands.now in
+    let all = all_calls meant cs c.loop-i.i c.loop-i-test.false in
+    let n = length-map cs meant in
+    let ends : c.loop-i.i ≡ length (calls cs) = omega (arith, n) in
     let leaves = c.loop-i.invariant.0 ∙ ap (outcome_from s) all in
     record {
       run = record {
-        made = sym (ap (λ (k : ℕ). leb k (length c.args.answers.now)) n ∙ le-leb _ _ c.if-requests-answers.false);
+        made = sym (ap (λ (k : ℕ). leb k (length c.args.answers.now)) n ∙ le-leb _ _ c.if-commands-answers.false);
         leaves = leaves;
         tells =
             c.loop-i.invariant.1
             ∙ ap (λ (l : List Call). answers_from s l ++ drop c.loop-i.i c.args.answers.now) all
-            ∙ ap (λ (k : ℕ). answers_from s (map f cs) ++ drop k c.args.answers.now) ends;
-        continues = λ r e. leaves ∙ ap (λ (x : State). outcome_from x (map f cs)) e ∙ sym (goes_on r (map f cs));
+            ∙ ap (λ (k : ℕ). answers_from s (calls cs) ++ drop k c.args.answers.now) ends;
+        continues = λ r e. leaves ∙ ap (λ (x : State). outcome_from x (calls cs)) e ∙ sym (goes_on r (calls cs));
         laws = rules;
       };
       same = c.loop-i.invariant.2;
