@@ -1,7 +1,7 @@
 // What a monitor may be called for, as data.
 
 // A custodial trade: a member trades for a participant.
-#[derive(Clone, Copy)]
+#[derive(Clone, Copy, PartialEq, Eq, Debug)]
 pub struct Trade {
     pub member: usize,
     pub participant: usize,
@@ -9,7 +9,7 @@ pub struct Trade {
     pub change: i64,
 }
 
-#[derive(Clone, Copy)]
+#[derive(Clone, Copy, PartialEq, Eq, Debug)]
 pub enum Command {
     Post {
         entity: usize,

@@ -1,8 +1,9 @@
-// What everything is called: kinds, underlyings, marks, sides, commands, refusals and bounds.
+// What everything is called: kinds, underlyings, limits, marks, sides, commands, refusals and bounds.
 #![tactic(auto)]
 
 pub mod bounds;
 pub mod command;
 pub mod kind;
+pub mod limits;
 pub mod mark;
 pub mod refusal;
