@@ -1,5 +1,5 @@
 -- What replaying a list of commands does, and what holds of every run.
-use Rattle.std.specs.Prelude.{◌≡◌, Bool, cond, List, ◌++◌, map, length, drop, nat_le}
+use Rattle.std.specs.Prelude.{◌≡◌, Bool, cond, List, ◌++◌, map, length, drop, nat_le, codes, ℕ}
 use Rattle.terms.specs.declared.command.Command.{Command}
 use Rattle.terms.specs.declared.command.Command.TheVariants.{Post, Entry, Confirm}
 use Rattle.model.specs.Causes.{Answer}
@@ -29,3 +29,7 @@ pub record Replayed (s : State) (cs : List Call) (rows : List Answer) (did : Boo
   pub continues : (r : Run) → s ≡ outcome r → s' ≡ cond did (outcome (followed_by r cs)) s
   -- and the laws hold of every run
   pub laws : Handbook
+
+-- what is told where there are fewer rows than calls
+abbrev pub too_few : List ℕ
+too_few = codes "fewer rows than calls"

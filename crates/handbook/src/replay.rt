@@ -1,12 +1,14 @@
 // Making calls from data.
-ghost use Rattle.std.specs.Prelude.{◌≡◌, cond, ◌++◌, length};
+ghost use Rattle.std.specs.Prelude.{◌≡◌, is_ok, Some};
 ghost use Rattle.model.specs.Calls.{step};
 ghost use Rattle.monitor.specs.View.{state_of};
-ghost use Rattle.handbook.specs.Replay.{meant, calls, Replayed};
+ghost use Rattle.handbook.specs.Replay.{meant, calls, Replayed, too_few};
 
 use book::position::Book;
 use monitor::state::Monitor;
 use terms::command::Command;
+use std::error::Error;
+use std::fmt;
 use terms::refusal::Refusal;
 
 // Makes the call that the command stands for.
@@ -25,21 +27,35 @@ pub fn apply<B: Book>(monitor: &mut Monitor<B>, command: &Command) -> Result<i64
     }
 }
 
+// Fewer rows than calls were handed in.
+#[derive(Clone, Copy, PartialEq, Eq, Debug)]
+pub struct TooFewRows;
+
+impl fmt::Display for TooFewRows {
+    ghost output = { λ _. Some too_few };
+
+    fn fmt<W: fmt::Write>(&self, f: &mut fmt::Formatter<W>) -> fmt::Result {
+        f.write_str("fewer rows than calls")
+    }
+}
+
+impl Error for TooFewRows {}
+
 // Makes the calls in turn and writes what each is answered into the first of the rows; where the rows are too few it makes
-// none and answers false. What holds of every run stands in the contract beside what this one leaves and tells.
+// none. What holds of every run stands in the contract beside what this one leaves and tells.
 pub fn replay<B: Book>(
     monitor: &mut Monitor<B>,
     commands: &[Command],
     answers: &mut [Result<i64, Refusal>],
-) -> bool
-    ensures run { Replayed (state_of B.Holds.held monitor.old) (calls commands.now) answers.old result (state_of B.Holds.held monitor.new) answers.new }
+) -> Result<(), TooFewRows>
+    ensures run { Replayed (state_of B.Holds.held monitor.old) (calls commands.now) answers.old (is_ok result) (state_of B.Holds.held monitor.new) answers.new }
     ensures same { monitor.new.book.ghost_name ≡ monitor.old.book.ghost_name }
 {
     if commands.len() > answers.len() {
-        return false;
+        return Err(TooFewRows);
     }
-    for i in 0..commands.len() {
-        answers[i] = apply(monitor, &commands[i]);
+    for (place, command) in commands.iter().enumerate() {
+        answers[place] = apply(monitor, command);
     }
-    true
+    Ok(())
 }

@@ -1,5 +1,6 @@
 -- A call's step, by the way that its causes go. What proves a monitor's code equal to the model cites these.
-use Rattle.std.proofs.Common.{◌≡◌, ℕ, Bool, true, false, cond, not, List, [], ◌∷◌, ℤ, Some, None, Ok, Err, Option, sym, refl, ap, ◌∙◌, ap₂, arith}
+use Rattle.std.proofs.Common.{◌≡◌, ℕ, Bool, true, false, cond, not, List, [], ◌∷◌, ℤ, Some, None, Ok, Err, Option, IsErrAnd, sym, refl, ap, ◌∙◌, ap₂, arith}
+use Rattle.std.proofs.lemmas.Result.{err_from_is_err_and}
 use Rattle.terms.specs.declared.command.Trade.{Trade}
 use Rattle.terms.specs.declared.refusal.Refusal.{Refusal}
 use Rattle.terms.specs.declared.refusal.Refusal.TheVariants.{Closed, Ticket}
@@ -22,6 +23,10 @@ pub unless_ok : (t : List (Bool × Refusal)) (v : Verdict) → unless t (Ok tt) 
 unless_ok [] v e = refl
 unless_ok ((true, w) ∷ t) v e = let z : ◌≡◌ {A = ℕ} 0 1 = cc in absurd (omega arith)
 unless_ok ((false, w) ∷ t) v e = unless_ok t v e
+
+-- a check that declined, where its answer came through a `?`
+pub exit_unless : (t : List (Bool × Refusal)) (v r : Verdict) (why : Refusal) → IsErrAnd r (λ y. y ≡ why) → unless t (Ok tt) ≡ Err why → r ≡ unless t v
+exit_unless t v r why q h = let p = err_from_is_err_and r q in p.1 ∙ ap Err p.2 ∙ sym (unless_err t v why h)
 
 -- ---- a step by its verdict
 
@@ -66,6 +71,13 @@ module _ (s : State) (c : Call) (table : List (Bool × Refusal)) (rest : Verdict
   pub by_rest : (why : Refusal) → unless table (Ok tt) ≡ Ok tt → rest ≡ Err why → (Err why, s) ≡ step s c
   by_rest why h r = step_err s c why (is ∙ unless_ok table rest h ∙ r)
 
+  -- the same, where the answer came through a `?`
+  pub exit_by_table : (r : Answer) (why : Refusal) → IsErrAnd r (λ y. y ≡ why) → unless table (Ok tt) ≡ Err why → (r, s) ≡ step s c
+  exit_by_table r why q h = let p = err_from_is_err_and r q in ap (λ (a : Answer). (a, s)) (p.1 ∙ ap Err p.2) ∙ by_table why h
+
+  pub exit_by_rest : (r : Answer) (why : Refusal) → IsErrAnd r (λ y. y ≡ why) → unless table (Ok tt) ≡ Ok tt → rest ≡ Err why → (r, s) ≡ step s c
+  exit_by_rest r why q h e = let p = err_from_is_err_and r q in ap (λ (a : Answer). (a, s)) (p.1 ∙ ap Err p.2) ∙ by_rest why h e
+
   -- let through
   pub by_none : unless table (Ok tt) ≡ Ok tt → rest ≡ Ok tt → (Ok (number s c), done s c) ≡ step s c
   by_none h r = step_ok s c (is ∙ unless_ok table rest h ∙ r)
@@ -73,19 +85,24 @@ module _ (s : State) (c : Call) (table : List (Bool × Refusal)) (rest : Verdict
 -- ---- entry
 
 module _ (s : State) (k : ℕ) (d : Trade) where
-  abbrev entry_causes : List (Bool × Refusal)
+  abbrev pub entry_causes : List (Bool × Refusal)
   entry_causes = (not (is_open s.terms), Closed) ∷ entry_table s.ledger k d
 
-  abbrev entry_reply : Answer
+  abbrev pub entry_reply : Answer
   entry_reply = reply s.ledger.book d.member d.contract d.change
 
   -- declined before the book is asked
-  pub entry_refused : (why : Refusal) → unless ((not (is_open s.terms), Closed) ∷ entry_table s.ledger k d) (Ok tt) ≡ Err why → (Err why, s) ≡ step s (entry k d)
-  entry_refused = by_table s (entry k d) entry_causes (verdict_of entry_reply) refl
+  pub entry_refused : (r : Answer) (why : Refusal) → IsErrAnd r (λ y. y ≡ why) → unless entry_causes (Ok tt) ≡ Err why → (r, s) ≡ step s (entry k d)
+  entry_refused = exit_by_table s (entry k d) entry_causes (verdict_of entry_reply) refl
 
   -- declined by the book
-  pub entry_declined : (why : Refusal) → unless ((not (is_open s.terms), Closed) ∷ entry_table s.ledger k d) (Ok tt) ≡ Ok tt → reply s.ledger.book d.member d.contract d.change ≡ Err why → (Err why, s) ≡ step s (entry k d)
-  entry_declined why h r = by_rest s (entry k d) entry_causes (verdict_of entry_reply) refl why h (ap verdict_of r)
+  pub entry_declined : (r : Answer) (why : Refusal) → IsErrAnd r (λ y. y ≡ why) → unless entry_causes (Ok tt) ≡ Ok tt → entry_reply ≡ Err why → (r, s) ≡ step s (entry k d)
+  entry_declined r why q h e = exit_by_rest s (entry k d) entry_causes (verdict_of entry_reply) refl r why q h (ap verdict_of e)
+
+  pub entry_done : (q : ℤ) → unless entry_causes (Ok tt) ≡ Ok tt → entry_reply ≡ Ok q → (Ok q, record { terms = s.terms; ledger = with_ticket (with_book s.ledger (posted s.ledger.book d.member d.contract d.change)) k (Some d); marks = s.marks }) ≡ step s (entry k d)
+  entry_done q h e =
+      ap (λ (a : Answer). (Ok (number_in a), done s (entry k d))) (sym e)
+      ∙ by_none s (entry k d) entry_causes (verdict_of entry_reply) refl h (ap verdict_of e)
 
 -- ---- confirmation
 

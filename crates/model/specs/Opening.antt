@@ -1,20 +1,21 @@
 -- What a monitor is opened over, and when it is open.
 use Rattle.std.specs.Prelude.{ℕ, Bool, true, false, not, ◌&&◌, List, [], ◌∷◌, length, ◌==◌, nat_le, nat_lt, slice_index_or}
+use Rattle.std.specs.List.{list_all}
 use Rattle.terms.specs.declared.kind.Kind.{Kind}
 use Rattle.terms.specs.declared.kind.Kind.TheVariants.{Future, Call, Put}
 use Rattle.terms.specs.declared.kind.Underlying.{Underlying}
 use Rattle.terms.specs.declared.kind.Underlying.TheVariants.{Index, Stock}
 use Rattle.terms.specs.declared.kind.Contract.{Contract}
+use Rattle.terms.specs.declared.limits.Limits.{Limits}
 use Rattle.terms.specs.Bounds.{most_entities, most_contracts, most_underlyings, amount_bound}
 use Rattle.book.specs.Holding.{Holding}
 
--- what is handed in: a book, its contracts, the underlyings, and two limits in paise
+-- what is handed in: a book, its contracts, the underlyings, and the two limits
 pub record Opening : Type 0 where
   pub book : Holding
   pub contracts : List Contract
   pub underlyings : List Underlying
-  pub net_limit : ℕ
-  pub gross_limit : ℕ
+  pub limits : Limits
 
 -- what is watched: the book's numbers of entities and contracts, the contracts and the underlyings
 pub record Listing : Type 0 where
@@ -26,21 +27,20 @@ pub record Listing : Type 0 where
 -- what stays as it was at the opening
 pub record Terms : Type 0 where
   pub listing : Listing
-  pub net_limit : ℕ
-  pub gross_limit : ℕ
+  pub limits : Limits
 
 abbrev pub listing_from : ℕ → ℕ → List Contract → List Underlying → Listing
 listing_from e n cs us = record { entities = e; places = n; contracts = cs; underlyings = us }
 
-abbrev pub terms_from : Listing → ℕ → ℕ → Terms
-terms_from l net gross = record { listing = l; net_limit = net; gross_limit = gross }
+abbrev pub terms_from : Listing → Limits → Terms
+terms_from l limits = record { listing = l; limits = limits }
 
 -- what the opening fixes
 abbrev pub terms_of : Opening → Terms
-terms_of o = terms_from (listing_from o.book.entities o.book.contracts o.contracts o.underlyings) o.net_limit o.gross_limit
+terms_of o = terms_from (listing_from o.book.entities o.book.contracts o.contracts o.underlyings) o.limits
 
-abbrev pub opening_from : Holding → List Contract → List Underlying → ℕ → ℕ → Opening
-opening_from b cs us net gross = record { book = b; contracts = cs; underlyings = us; net_limit = net; gross_limit = gross }
+abbrev pub opening_from : Holding → List Contract → List Underlying → Limits → Opening
+opening_from b cs us limits = record { book = b; contracts = cs; underlyings = us; limits = limits }
 
 -- n is at least low and at most high
 abbrev pub in_range : ℕ → ℕ → ℕ → Bool
@@ -67,9 +67,9 @@ is_stock_at us u = is_stock (slice_index_or us u Index)
 abbrev pub sound_contract : List Underlying → Contract → Bool
 sound_contract us c = is_listed us c.underlying && not (is_future c.kind && not (is_stock_at us c.underlying))
 
+-- every contract does
 abbrev pub all_sound : List Underlying → List Contract → Bool
-all_sound us [] = true
-all_sound us (c ∷ cs) = sound_contract us c && all_sound us cs
+all_sound us cs = list_all (sound_contract us) cs
 
 -- every condition under which a monitor is open
 abbrev pub is_open : Terms → Bool
@@ -79,5 +79,5 @@ is_open t =
     && t.listing.places == length t.listing.contracts
     && in_range 1 most_underlyings (length t.listing.underlyings)
     && all_sound t.listing.underlyings t.listing.contracts
-    && in_range 1 amount_bound t.net_limit
-    && in_range 1 amount_bound t.gross_limit
+    && in_range 1 amount_bound t.limits.net
+    && in_range 1 amount_bound t.limits.gross

@@ -4,6 +4,7 @@ use Rattle.terms.specs.declared.command.Trade.{Trade}
 use Rattle.terms.specs.declared.mark.Mark.{Mark}
 use Rattle.book.specs.Holding.{Holding}
 use Rattle.model.specs.declared.parts.Day.{Day}
+use Rattle.model.specs.declared.parts.Due.TheVariants.{Snapshot}
 use Rattle.model.specs.declared.parts.MarkRow.{MarkRow}
 use Rattle.model.specs.Opening.{Opening, Terms, terms_of}
 
@@ -41,7 +42,7 @@ pub record State : Type 0 where
 -- ---- a new monitor: no bans, marks or tickets, and every base quantity at zero
 
 abbrev pub no_day : Day
-no_day = record { taken = 0; last = 0; owed = false; done = false }
+no_day = record { taken = 0; last = None; due = Snapshot }
 
 abbrev pub no_row : MarkRow
 no_row = record { sighted = false; count = 0; largest = 0; kept = None }

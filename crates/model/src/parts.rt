@@ -1,18 +1,29 @@
 // The plain data that a monitor keeps.
+// use stock::close::Violation;
+use terms::bounds::MOST_ENTITIES;
 
-// An index's day: how many snapshots were taken, the minute of the last one or of its cure, whether a cure is owed, and
-// whether the final one was taken.
-#[derive(Clone, Copy)]
+// What an index's day waits for.
+#[derive(Clone, Copy, PartialEq, Eq, Debug)]
+pub enum Due {
+    Snapshot,
+    // The cure of a regular snapshot.
+    Cure,
+    // The final snapshot was taken.
+    Settlement,
+}
+
+// An index's day: how many snapshots were taken, the minute of the last one or of its cure, and what comes next.
+#[derive(Clone, Copy, PartialEq, Eq, Debug)]
 pub struct Day {
     pub taken: u32,
-    pub last: u64,
-    pub owed: bool,
-    pub done: bool,
+    pub last: Option<u64>,
+    pub due: Due,
 }
 
 // One mark: whether it is sighted, how often it was made provisional, its largest value then, and the largest value with
-// which the last settlement kept it as a final breach.
-#[derive(Clone, Copy)]
+// which the last settlement kept it as a final breach. A mark that was never provisional has a count and a largest value
+// like any other: those of none, 0.
+#[derive(Clone, Copy, PartialEq, Eq, Debug)]
 pub struct MarkRow {
     pub sighted: bool,
     pub count: u64,
@@ -21,10 +32,25 @@ pub struct MarkRow {
 }
 
 // Something for each of the four marks.
-#[derive(Clone, Copy)]
+#[derive(Clone, Copy, PartialEq, Eq, Debug)]
 pub struct Four<T> {
     pub net_long: T,
     pub net_short: T,
     pub gross_long: T,
     pub gross_short: T,
+}
+
+// What is kept of an index: its day, and the marks of each entity.
+#[derive(Clone, Copy)]
+pub struct IndexRecord {
+    pub day: Day,
+    pub marks: [Four<MarkRow>; MOST_ENTITIES],
+}
+
+// What is kept of a stock: its market-wide limit once it is set, whether it is in a ban, and whom its last close found in violation.
+#[derive(Clone, Copy)]
+pub struct StockRecord {
+    pub limit: Option<u64>,
+    pub banned: bool,
+    pub violations: [Option<u64>; MOST_ENTITIES],
 }

@@ -1,5 +1,3 @@
 pub mod Same
 pub mod New
 pub mod Open
-pub mod Limited
-pub mod Closed

@@ -1,14 +1,16 @@
 -- A new monitor's tables hold nothing.
-use Rattle.std.proofs.Common.{◌≡◌, ℕ, false, T, get_or, replicate, pos, None, Option, refl, ap, ◌∙◌}
+use Rattle.std.proofs.Common.{◌≡◌, ℕ, false, T, get_or, replicate, pos, None, Option, unwrap_or, refl, ap, ◌∙◌}
 use Rattle.terms.specs.Bounds.{most_entities, most_underlyings, ticket_count}
 use Rattle.terms.specs.declared.command.Trade.{Trade}
 use Rattle.terms.specs.declared.mark.Mark.{Mark}
 use Rattle.terms.specs.declared.mark.Mark.TheVariants.{NetLong, NetShort, GrossLong, GrossShort}
 use Rattle.book.specs.Holding.{Holding}
-use Rattle.model.specs.State.{Quantities, no_day, no_row, new_ledger}
+use Rattle.model.specs.declared.parts.IndexRecord.{IndexRecord}
+use Rattle.model.specs.declared.parts.StockRecord.{StockRecord}
+use Rattle.model.specs.State.{Quantities, no_day, no_row, no_stock, new_ledger}
 use Rattle.monitor.specs.Modest.{modest}
-use Rattle.monitor.specs.View.{tickets_of, days_of, limits_of, bans_of, figures_of, four, four_of, marks_of}
-use Rattle.monitor.proofs.Same.{same_everywhere, same_in_rows, everywhere_replicate}
+use Rattle.monitor.specs.View.{tickets_of, no_index, no_record, days_of, stock_in, stocks_of, four, four_of, marks_of}
+use Rattle.monitor.proofs.Same.{same_everywhere, everywhere_replicate, everywhere_replicate_or}
 
 four_of_is : {A : Type 0} (a : A) (m : Mark) → four (four_of a) m ≡ a
 four_of_is a NetLong = refl
@@ -16,35 +18,38 @@ four_of_is a NetShort = refl
 four_of_is a GrossLong = refl
 four_of_is a GrossShort = refl
 
-no_mark : (u e : ℕ) (m : Mark) → marks_of (replicate most_underlyings (replicate most_entities (four_of no_row))) u e m ≡ no_row
-no_mark u e m = ap (λ f. four f m) (same_in_rows most_underlyings most_entities u e (four_of no_row)) ∙ four_of_is no_row m
+-- a new index and a new stock
+abbrev pub new_index : IndexRecord
+new_index = record { day = no_day; marks = replicate most_entities (four_of no_row) }
 
-pub no_marks : marks_of (replicate most_underlyings (replicate most_entities (four_of no_row))) ≡ (λ u e m. no_row)
+abbrev pub new_stock : StockRecord
+new_stock = record { limit = None; banned = false; violations = replicate most_entities None }
+
+no_mark : (u e : ℕ) (m : Mark) → marks_of (replicate most_underlyings new_index) u e m ≡ no_row
+no_mark u e m = everywhere_replicate_or (λ (x : IndexRecord). four (get_or x.marks e (four_of no_row)) m ≡ no_row) new_index no_index most_underlyings (ap (λ f. four f m) (same_everywhere most_entities e (four_of no_row)) ∙ four_of_is no_row m) (four_of_is no_row m) u
+
+pub no_marks : marks_of (replicate most_underlyings new_index) ≡ (λ u e m. no_row)
 no_marks = λ i u e m. no_mark u e m i
+
+no_days : (u : ℕ) → days_of (replicate most_underlyings new_index) u ≡ no_day
+no_days u = everywhere_replicate_or (λ (x : IndexRecord). x.day ≡ no_day) new_index no_index most_underlyings refl refl u
+
+no_stocks : (u : ℕ) → stocks_of (replicate most_underlyings new_stock) u ≡ no_stock
+no_stocks u = everywhere_replicate_or (λ (x : StockRecord). stock_in x ≡ no_stock) new_stock no_record most_underlyings (λ i. record { limit = None; ban = false; violated = λ e. unwrap_or (same_everywhere most_entities e None i) 0; charge = λ e. unwrap_or (same_everywhere most_entities e None i) 0 }) refl u
 
 pub no_ledger : (b : Holding) (q : Quantities) → q ≡ (λ e c. pos 0) → record {
   book = b;
   base = q;
   tickets = tickets_of (replicate ticket_count None);
-  days = days_of (replicate most_underlyings no_day);
-  stocks = λ u. record {
-    limit = limits_of (replicate most_underlyings None) u;
-    ban = bans_of (replicate most_underlyings false) u;
-    violated = figures_of (replicate most_underlyings (replicate most_entities 0)) u;
-    charge = figures_of (replicate most_underlyings (replicate most_entities 0)) u;
-  };
+  days = days_of (replicate most_underlyings new_index);
+  stocks = stocks_of (replicate most_underlyings new_stock);
 } ≡ new_ledger b
 no_ledger b q p = λ i. record {
   book = b;
   base = p i;
   tickets = λ k. same_everywhere ticket_count k None i;
-  days = λ u. same_everywhere most_underlyings u no_day i;
-  stocks = λ u. record {
-    limit = same_everywhere most_underlyings u None i;
-    ban = same_everywhere most_underlyings u false i;
-    violated = λ e. same_in_rows most_underlyings most_entities u e 0 i;
-    charge = λ e. same_in_rows most_underlyings most_entities u e 0 i;
-  };
+  days = λ u. no_days u i;
+  stocks = λ u. no_stocks u i;
 }
 
 pub tickets_modest : (k : ℕ) → T (modest (get_or (replicate ticket_count None) k None))

@@ -1,6 +1,7 @@
 -- Lists of one value, and facts of every place of a list.
-use Rattle.std.proofs.Common.{◌≡◌, ℕ, zero, suc, eqb, [], get_or, replicate, refl}
-use Rattle.std.proofs.lemmas.Bool.{cond_both}
+use Rattle.std.proofs.Common.{◌≡◌, ℕ, zero, suc, ◌<◌, Bool, true, false, cond, eqb, List, length, set, get_or, replicate, refl, ap, ◌∙◌, get_or-set_other, get_or-set_same}
+use mathlib.Core.Path.{fun_ext}
+use Rattle.std.proofs.lemmas.Bool.{cond_both, eqb-true, eqb-false}
 use Rattle.model.specs.State.{at}
 
 pub same_everywhere : {A : Type 0} (n k : ℕ) (x : A) → get_or (replicate n x) k x ≡ x
@@ -8,15 +9,22 @@ same_everywhere zero k x = refl
 same_everywhere (suc n) zero x = refl
 same_everywhere (suc n) (suc k) x = same_everywhere n k x
 
-pub same_in_rows : {A : Type 0} (n m u e : ℕ) (x : A) → get_or (get_or (replicate n (replicate m x)) u []) e x ≡ x
-same_in_rows zero m u e x = refl
-same_in_rows (suc n) m zero e x = same_everywhere m e x
-same_in_rows (suc n) m (suc u) e x = same_in_rows n m u e x
+-- what holds of a value, and of what stands outside, holds everywhere in a list of that value
+pub everywhere_replicate_or : {A : Type 0} (P : A → Type 0) (x d : A) (n : ℕ) → P x → P d → (k : ℕ) → P (get_or (replicate n x) k d)
+everywhere_replicate_or P x d zero p q k = q
+everywhere_replicate_or P x d (suc n) p q zero = p
+everywhere_replicate_or P x d (suc n) p q (suc k) = everywhere_replicate_or P x d n p q k
 
 pub everywhere_replicate : {A : Type 0} (P : A → Type 0) (x : A) (n : ℕ) → P x → (k : ℕ) → P (get_or (replicate n x) k x)
-everywhere_replicate P x zero p k = p
-everywhere_replicate P x (suc n) p zero = p
-everywhere_replicate P x (suc n) p (suc k) = everywhere_replicate P x n p k
+everywhere_replicate P x n p k = everywhere_replicate_or P x x n p p k
 
 pub everywhere_at : {A : Type 0} (P : A → Type 0) (k : ℕ) (a : A) (f : ℕ → A) → ((j : ℕ) → P (f j)) → P a → (j : ℕ) → P (at k a f j)
 everywhere_at P k a f h p j = cond_both (eqb j k) a (f j) P (λ _. p) (λ _. h j)
+
+-- a list that is written at one place, by its places
+pub at_set : {A : Type 0} (xs : List A) (k : ℕ) (v d : A) → k < length xs → (λ j. get_or (set xs k v) j d) ≡ at k v (λ j. get_or xs j d)
+at_set xs k v d h = fun_ext (λ j. each j (eqb j k) refl)
+  where
+    each : (j : ℕ) (t : Bool) → eqb j k ≡ t → get_or (set xs k v) j d ≡ cond t v (get_or xs j d)
+    each j true e = ap (λ (i : ℕ). get_or (set xs k v) i d) (eqb-true j k e) ∙ get_or-set_same xs k v d h
+    each j false e = get_or-set_other xs k j v d (eqb-false j k e)

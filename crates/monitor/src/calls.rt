@@ -1,21 +1,29 @@
 // The calls on a monitor, each one step of the model, and the questions.
-ghost use Rattle.std.specs.Prelude.{◌≡◌, ◌<◌, not, [], ◌∷◌, Ok, OnOk};
+ghost use Rattle.std.specs.Prelude.{◌≡◌, ◌<◌, ◌∷◌, ◌++◌, Ok, OnOk};
 ghost use Rattle.terms.specs.Bounds.{ticket_count};
-ghost use Rattle.terms.specs.declared.refusal.Refusal.TheVariants.{Closed};
 ghost use Rattle.book.specs.Holding.{inside};
 ghost use Rattle.model.specs.Causes.{unless};
-ghost use Rattle.model.specs.Opening.{is_open};
-ghost use Rattle.model.specs.Calls.{post, entry, confirm, entry_table, quantity_in, step};
+ghost use Rattle.model.specs.Calls.{post, entry, confirm, closed_table, entry_table, quantity_in, step};
 ghost use Rattle.monitor.specs.View.{state_of};
 
-use crate::custody::{transfer, write_ticket};
+use crate::custody::transfer;
 use crate::state::Monitor;
 use book::position::Book;
-use terms::bounds::TICKETS;
 use terms::command::Trade;
 use terms::refusal::Refusal;
 
 impl<'b, 't, B: Book> Monitor<'b, 't, B> {
+    // CLOSED, unless the monitor is open.
+    pub(crate) fn opened(&self) -> Result<(), Refusal>
+        ensures { result ≡ unless (closed_table (state_of B.Holds.held self.now).terms) (Ok tt) }
+    {
+        if self.fixed.live {
+            Ok(())
+        } else {
+            Err(Refusal::Closed)
+        }
+    }
+
     // The pair is one of the book's.
     fn is_inside(&self, entity: usize, contract: usize) -> bool
         ensures { result ≡ inside (B.Holds.held self.now.book.now) entity contract }
@@ -26,18 +34,13 @@ impl<'b, 't, B: Book> Monitor<'b, 't, B> {
 
     // The causes that decline an entry before the book is asked.
     fn admits_entry(&self, ticket: usize, trade: Trade) -> Result<(), Refusal>
-        ensures is { result ≡ unless ((not (is_open (state_of B.Holds.held self.now).terms), Closed) ∷ entry_table (state_of B.Holds.held self.now).ledger ticket trade) (Ok tt) }
+        ensures is { result ≡ unless (closed_table (state_of B.Holds.held self.now).terms) (unless (entry_table (state_of B.Holds.held self.now).ledger ticket trade) (Ok tt)) }
         ensures within { OnOk result (ticket < ticket_count) }
     {
-        if !self.fixed.live {
-            return Err(Refusal::Closed);
-        }
-        if ticket >= TICKETS {
+        self.opened()?;
+        let Some(None) = self.inner.tickets.get(ticket) else {
             return Err(Refusal::Ticket);
-        }
-        if let Some(_) = self.inner.tickets[ticket] {
-            return Err(Refusal::Ticket);
-        }
+        };
         if trade.member == trade.participant {
             return Err(Refusal::Ticket);
         }
@@ -52,9 +55,7 @@ impl<'b, 't, B: Book> Monitor<'b, 't, B> {
         ensures step { (result, state_of B.Holds.held self.new) ≡ step (state_of B.Holds.held self.old) (post entity contract change) }
         ensures same { self.new.book.ghost_name ≡ self.old.book.ghost_name }
     {
-        if !self.fixed.live {
-            return Err(Refusal::Closed);
-        }
+        self.opened()?;
         self.book.post(entity, contract, change)
     }
 
@@ -65,7 +66,7 @@ impl<'b, 't, B: Book> Monitor<'b, 't, B> {
     {
         self.admits_entry(ticket, trade)?;
         let quantity = self.book.post(trade.member, trade.contract, trade.change)?;
-        write_ticket(&mut self.inner.tickets, ticket, Some(trade));
+        self.inner.tickets[ticket] = Some(trade);
         Ok(quantity)
     }
 
@@ -75,29 +76,23 @@ impl<'b, 't, B: Book> Monitor<'b, 't, B> {
         ensures step { (result, state_of B.Holds.held self.new) ≡ step (state_of B.Holds.held self.old) (confirm ticket) }
         ensures same { self.new.book.ghost_name ≡ self.old.book.ghost_name }
     {
-        if !self.fixed.live {
-            return Err(Refusal::Closed);
-        }
-        if ticket >= TICKETS {
+        self.opened()?;
+        let Some(Some(trade)) = self.inner.tickets.get(ticket) else {
             return Err(Refusal::Ticket);
-        }
-        match self.inner.tickets[ticket] {
-            None => Err(Refusal::Ticket),
-            Some(trade) => {
-                let quantity = transfer(self.book, trade)?;
-                write_ticket(&mut self.inner.tickets, ticket, None);
-                Ok(quantity)
-            }
-        }
+        };
+        let quantity = transfer(self.book, *trade)?;
+        self.inner.tickets[ticket] = None;
+        Ok(quantity)
     }
 
     // The quantity of a pair; zero where the pair is outside or the monitor is not open.
     pub fn quantity(&self, entity: usize, contract: usize) -> i64
         ensures { result ≡ quantity_in (state_of B.Holds.held self.now) entity contract }
     {
-        if !self.fixed.live {
-            return 0;
+        if self.fixed.live {
+            self.book.quantity(entity, contract)
+        } else {
+            0
         }
-        self.book.quantity(entity, contract)
     }
 }

@@ -1,17 +1,14 @@
 // What stays as it was at the opening.
 ghost use Rattle.std.specs.Prelude.{◌≡◌};
-ghost use Rattle.model.specs.Opening.{listing_from, terms_from, is_open};
+ghost use Rattle.model.specs.Opening.{is_open};
+ghost use Rattle.monitor.specs.Listed.{terms_in};
 
-use terms::kind::{Contract, Underlying};
+use crate::listing::Terms;
 
+// A flag, and no Option of the terms: a monitor that is not open keeps them too, and answers CLOSED.
 #[derive(Drop)]
 pub struct Fixed<'t> {
-    pub(crate) entities: usize,
-    pub(crate) places: usize,
-    pub(crate) contracts: &'t [Contract],
-    pub(crate) underlyings: &'t [Underlying],
-    pub(crate) net_limit: u64,
-    pub(crate) gross_limit: u64,
+    pub(crate) terms: Terms<'t>,
     pub(crate) live: bool,
-    ghost decided: { live ≡ is_open (terms_from (listing_from entities places contracts.now underlyings.now) net_limit gross_limit) },
+    ghost decided: { live ≡ is_open (terms_in terms) },
 }

@@ -1,18 +1,14 @@
 // What a monitor keeps besides its book and what was fixed at the opening.
-use model::parts::{Day, Four, MarkRow};
+use model::parts::{IndexRecord, StockRecord};
 use stock::base::Base;
+use terms::bounds::{MOST_UNDERLYINGS, TICKETS};
 use terms::command::Trade;
 
 #[derive(Drop)]
 pub struct Inner {
     pub(crate) base: Base,
-    pub(crate) tickets: [Option<Trade>; 16],
+    pub(crate) tickets: [Option<Trade>; TICKETS],
     // By underlying.
-    pub(crate) days: [Day; 4],
-    pub(crate) limits: [Option<u64>; 4],
-    pub(crate) bans: [bool; 4],
-    // By underlying and entity.
-    pub(crate) violated: [[u64; 128]; 4],
-    pub(crate) charges: [[u64; 128]; 4],
-    pub(crate) marks: [[Four<MarkRow>; 128]; 4],
+    pub(crate) indices: [IndexRecord; MOST_UNDERLYINGS],
+    pub(crate) stocks: [StockRecord; MOST_UNDERLYINGS],
 }

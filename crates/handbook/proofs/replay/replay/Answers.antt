@@ -27,19 +27,19 @@ returns-then-commands-answers g c =
       same = refl;
     }
 
-pub loop-i-preserved : goal.loop-i-preserved
-loop-i-preserved g c =
+pub loop-place-preserved : goal.loop-place-preserved
+loop-place-preserved g c =
     let s = state_of g.B.Holds.held c.args.monitor.now in
     let cs = c.args.commands.now in
-    let i = c.loop-i.i in
-    let t = state_of g.B.Holds.held c.loop-i.monitor in
+    let i = c.loop-place.place in
+    let t = state_of g.B.Holds.held c.loop-place.monitor in
     let u = state_of g.B.Holds.held c.apply.new.monitor in
     let x = get_or cs i (Post 0 0 (pos 0)) in
-    let h = c.loop-i-test.true in
+    let h = c.loop-place-test.true in
     let e : x ≡ get_or cs i x = get_or_default cs i (Post 0 0 (pos 0)) x h in
-    let inv = c.loop-i.invariant in (
+    let inv = c.loop-place.invariant in (
       one_more meant s cs i x t u c.apply.result h e inv.0 c.apply.ensures.step,
-      rows_more meant s cs i c.args.answers.now c.loop-i.answers c.apply.result h c.if-commands-answers.false inv.1
+      rows_more meant s cs i c.args.answers.now c.loop-place.answers c.apply.result h c.if-commands-answers.false inv.1
           (answer_more meant s cs i x t u c.apply.result h e inv.0 c.apply.ensures.step),
       c.apply.ensures.same ∙ inv.2,
     )
@@ -48,20 +48,20 @@ pub returns : goal.returns
 returns g c =
     let s = state_of g.B.Holds.held c.args.monitor.now in
     let cs = c.args.commands.now in
-    let all = all_calls meant cs c.loop-i.i c.loop-i-test.false in
+    let all = all_calls meant cs c.loop-place.place c.loop-place-test.false in
     let n = length-map cs meant in
-    let ends : c.loop-i.i ≡ length (calls cs) = omega (arith, n) in
-    let leaves = c.loop-i.invariant.0 ∙ ap (outcome_from s) all in
+    let ends : c.loop-place.place ≡ length (calls cs) = omega (arith, n) in
+    let leaves = c.loop-place.invariant.0 ∙ ap (outcome_from s) all in
     record {
       run = record {
         made = sym (ap (λ (k : ℕ). leb k (length c.args.answers.now)) n ∙ le-leb _ _ c.if-commands-answers.false);
         leaves = leaves;
         tells =
-            c.loop-i.invariant.1
-            ∙ ap (λ (l : List Call). answers_from s l ++ drop c.loop-i.i c.args.answers.now) all
+            c.loop-place.invariant.1
+            ∙ ap (λ (l : List Call). answers_from s l ++ drop c.loop-place.place c.args.answers.now) all
             ∙ ap (λ (k : ℕ). answers_from s (calls cs) ++ drop k c.args.answers.now) ends;
         continues = λ r e. leaves ∙ ap (λ (x : State). outcome_from x (calls cs)) e ∙ sym (goes_on r (calls cs));
         laws = rules;
       };
-      same = c.loop-i.invariant.2;
+      same = c.loop-place.invariant.2;
     }

@@ -4,8 +4,8 @@ use Rattle.monitor.specs.View.{state_of}
 use Rattle.handbook.specs.Replay.{calls}
 use Rattle.handbook.proofs.replay.replay.Given as goal
 
-abbrev pub invariant-loop-i : goal.invariant-loop-i
-invariant-loop-i g l =
-    (state_of g.B.Holds.held l.monitor ≡ outcome_from (state_of g.B.Holds.held l.initial.monitor) (calls (take l.i l.commands)))
-    × (l.answers ≡ answers_from (state_of g.B.Holds.held l.initial.monitor) (calls (take l.i l.commands)) ++ drop l.i l.initial.answers)
+abbrev pub invariant-loop-place : goal.invariant-loop-place
+invariant-loop-place g l =
+    (state_of g.B.Holds.held l.monitor ≡ outcome_from (state_of g.B.Holds.held l.initial.monitor) (calls (take l.place l.commands)))
+    × (l.answers ≡ answers_from (state_of g.B.Holds.held l.initial.monitor) (calls (take l.place l.commands)) ++ drop l.place l.initial.answers)
     × (l.monitor.book.ghost_name ≡ l.initial.monitor.book.ghost_name)

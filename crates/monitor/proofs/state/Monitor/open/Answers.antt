@@ -1,10 +1,12 @@
 use Rattle.std.proofs.Common.{◌≡◌, ℕ, T, List, get_or, None, Option, sym, refl, ap, ◌∙◌, subst, ap₂}
 use Rattle.terms.specs.declared.command.Trade.{Trade}
+use Rattle.book.specs.declared.position.Shape.{Shape}
 use Rattle.book.specs.Holding.{Holding}
 use Rattle.model.specs.Opening.{Terms, opening_from, terms_of, terms_from, listing_from}
 use Rattle.model.specs.State.{State, Ledger, Marks}
 use Rattle.monitor.specs.Modest.{modest}
-use Rattle.monitor.specs.View.{fixed_of, ledger_of, marks_of}
+use Rattle.monitor.specs.View.{ledger_of, marks_of}
+use Rattle.monitor.specs.Listed.{terms_in}
 use Rattle.monitor.proofs.New.{tickets_modest}
 use Rattle.monitor.proofs.state.Monitor.open.Goals as goal
 
@@ -14,14 +16,14 @@ invariant_of-result g c = record { modest = subst (λ (ts : List (Option Trade))
 pub returns : goal.returns
 returns g c =
     let b : Holding = g.B.Holds.held c.args.book.now in
-    let t : Terms = terms_of (opening_from b c.args.contracts.now c.args.underlyings.now c.args.net_limit c.args.gross_limit) in
-    let fixed : fixed_of c.new-fixed.result ≡ t =
+    let t : Terms = terms_of (opening_from b c.args.contracts.now c.args.underlyings.now c.args.limits) in
+    let fixed : terms_in c.new-fixed.result.terms ≡ t =
     c.new-fixed.ensures
-    ∙ ap (λ x. terms_from (listing_from x.entities x.contracts c.args.contracts.now c.args.underlyings.now) c.args.net_limit c.args.gross_limit) c.shape-shape.ensures in
+    ∙ ap (λ (x : Shape). terms_from (listing_from x.entities x.contracts c.args.contracts.now c.args.underlyings.now) c.args.limits) c.shape-shape.ensures in
     let mk : Terms → Ledger → Marks → State = λ t l m. record { terms = t; ledger = l; marks = m } in
     record {
       state =
-          ap (λ (x : Terms). mk x (ledger_of b c.new-inner.result) (marks_of c.new-inner.result.marks)) fixed
+          ap (λ (x : Terms). mk x (ledger_of b c.new-inner.result) (marks_of c.new-inner.result.indices)) fixed
           ∙ ap₂ (λ (l : Ledger) (m : Marks). mk t l m) (c.new-inner.ensures.ledger b) c.new-inner.ensures.marks;
       same = refl;
     }

@@ -1,0 +1,19 @@
+// What a monitor is opened over.
+use terms::kind::{Contract, Underlying};
+use terms::limits::Limits;
+
+// What is watched: the book's numbers of entities and contracts, the contracts and the underlyings.
+#[derive(Clone, Copy)]
+pub struct Listing<'t> {
+    pub(crate) entities: usize,
+    pub(crate) places: usize,
+    pub(crate) contracts: &'t [Contract],
+    pub(crate) underlyings: &'t [Underlying],
+}
+
+// What is watched, and the two limits.
+#[derive(Clone, Copy)]
+pub struct Terms<'t> {
+    pub(crate) listing: Listing<'t>,
+    pub(crate) limits: Limits,
+}
