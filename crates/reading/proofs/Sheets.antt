@@ -1,48 +1,62 @@
--- The arrays of a sheet that is made.
-use Rattle.std.proofs.Common.{◌≡◌, ℕ, ◌<◌, ◌≤◌, false, cond, ltb, List, length, get_or, ℤ, pos, nat_abs, Some, None, Option, sym, ◌∙◌, subst, ⊎_elim, arith}
+-- The deltas of a sheet that is made.
+use Rattle.std.proofs.Common.{◌≡◌, ℕ, zero, suc, ◌+◌, ◌<◌, ◌≤◌, Bool, true, false, cond, ◌&&◌, ltb, List, get_or, ℤ, pos, nat_abs, Some, None, Option, sym, refl, ◌∙◌, subst, ⊎_elim, inl, inr, arith}
 use mathlib.Core.Path.{fun_ext}
+use denote.Param.Members.{Mut}
+use Rattle.std.specs.Array.{IsFromFnResult, IsFromFnResultFrom}
+use Rattle.std.specs.Iterator.{ActsAs}
 use Rattle.std.proofs.lemmas.List.{get_or_past}
-use Rattle.std.proofs.lemmas.Bool.{cases_lt, cond-true, cond-false, cond_both, lt-ltb, le-ltb, and_left}
+use Rattle.std.proofs.lemmas.Bool.{cases_lt, cases_eq, cond-false, cond_both, le-ltb, and_left}
 use Rattle.terms.specs.Bounds.{most_contracts}
 use Rattle.terms.specs.declared.kind.Contract.{Contract}
 use Rattle.terms.specs.declared.kind.Kind.{Kind}
 use Rattle.delta.specs.Sources.{delta_bound, Lawful}
 use Rattle.delta.proofs.Sizes.{in_range_size}
-use Rattle.reading.specs.Sheets.{contract_at, within, delta_at, or_zero, weight_of, lacks_delta}
+use Rattle.reading.specs.Sheets.{contract_at, within, delta_at, or_zero, is_none, weight_of, lacks_delta, delta_in}
 
--- an array that has what f says at each place below the most contracts is f, where f has nothing from there on
-pub filled : {X : Type 0} (xs : List X) (x : X) (f : ℕ → X) → ((k : ℕ) → k < most_contracts → get_or xs k x ≡ f k) → ((k : ℕ) → most_contracts ≤ k → f k ≡ x) → (λ k. cond (ltb k most_contracts) (get_or xs k x) x) ≡ f
-filled xs x f h past =
-    fun_ext (λ k.
-    ⊎_elim
-    (λ l. cond-true (ltb k most_contracts) _ _ (lt-ltb k most_contracts l) ∙ h k l)
-    (λ l. cond-false (ltb k most_contracts) _ _ (le-ltb k most_contracts l) ∙ sym (past k l))
-    (cases_lt k most_contracts))
+-- an array of the answers of f, which always answers as v does
+module _ {F A : Type 0} {g : Mut F (ℕ × Unit {0}) A} {f : F} (v : ℕ → A) (acts : ActsAs g f v) where
+  each : (xs : List A) (n i : ℕ) → IsFromFnResultFrom g f xs i n → (x : A) (k : ℕ) → i ≤ k → k < i + n → get_or xs k x ≡ v k
+  each xs zero i h x k l m = absurd (omega arith)
+  each xs (suc n) i (q, y, at, called, later) x k l m =
+      elim (cases_eq k i) [
+        | inl e ↦ rw e (at.1 x ∙ (acts i y q called).1)
+        | inr e ↦
+            let rest = subst (λ p. IsFromFnResultFrom g p xs (i + 1) n) (acts i y q called).0 later in
+            each xs n (i + 1) rest x k (omega arith) (omega arith)
+      ]
+
+  -- which is v, where v has x from the end on
+  pub filled : (xs : List A) (n : ℕ) → IsFromFnResult g f xs n → (x : A) → ((k : ℕ) → n ≤ k → v k ≡ x) → (λ k. get_or xs k x) ≡ v
+  filled xs n h x past =
+      fun_ext (λ k.
+      ⊎_elim
+      (λ l. each xs n 0 h.each x k (omega arith) (omega (arith, l)))
+      (λ l. get_or_past xs k x (omega (arith, h.long)) ∙ sym (past k l))
+      (cases_lt k n))
 
 module _ (cs : List Contract) (u : ℕ) (d : ℕ → Kind → Option ℤ) where
-  outside : (k : ℕ) → most_contracts ≤ k → within cs u k ≡ false
-  outside k l = and_left (ltb k most_contracts) _ (le-ltb k most_contracts l)
-
-  pub weightless : (k : ℕ) → most_contracts ≤ k → weight_of cs u d k ≡ pos 0
-  weightless k l = cond-false (within cs u k) _ _ (outside k l)
-
-  pub lackless : (k : ℕ) → most_contracts ≤ k → lacks_delta cs u d k ≡ false
-  lackless k l = and_left (within cs u k) _ (outside k l)
+  -- past the most contracts, nothing weighs anything
+  pub weightless : (k : ℕ) → most_contracts ≤ k → delta_in cs u d k ≡ Some (pos 0)
+  weightless k l = cond-false (within cs u k) _ _ (and_left (ltb k most_contracts) _ (le-ltb k most_contracts l))
 
   zero_small : (kind : Kind) (o : Option ℤ) → Lawful kind o → nat_abs (or_zero o) ≤ delta_bound
   zero_small kind None h = omega arith
   zero_small kind (Some z) h = in_range_size kind z h
 
   -- no contract weighs more than a whole unit
-  pub weight_small : ((c : ℕ) (kind : Kind) → Lawful kind (d c kind)) → (c : ℕ) → nat_abs (weight_of cs u d c) ≤ delta_bound
-  weight_small lawful c =
-      cond_both (within cs u c) (or_zero (delta_at cs d c)) (pos 0) (λ z. nat_abs z ≤ delta_bound)
+  pub delta_small : ((c : ℕ) (kind : Kind) → Lawful kind (d c kind)) → (c : ℕ) → nat_abs (or_zero (delta_in cs u d c)) ≤ delta_bound
+  delta_small lawful c =
+      cond_both (within cs u c) (delta_at cs d c) (Some (pos 0)) (λ o. nat_abs (or_zero o) ≤ delta_bound)
       (λ _. zero_small (contract_at cs c).kind (delta_at cs d c) (lawful c (contract_at cs c).kind))
       (λ _. omega arith)
 
-  pub array_small : ((c : ℕ) (kind : Kind) → Lawful kind (d c kind)) → (ws : List ℤ) → length ws ≡ most_contracts → ((k : ℕ) → k < most_contracts → get_or ws k (pos 0) ≡ weight_of cs u d k) → (k : ℕ) → nat_abs (get_or ws k (pos 0)) ≤ delta_bound
-  array_small lawful ws full h k =
-      ⊎_elim
-      (λ l. subst (λ z. nat_abs z ≤ delta_bound) (sym (h k l)) (weight_small lawful k))
-      (λ l. subst (λ z. nat_abs z ≤ delta_bound) (sym (get_or_past ws k (pos 0) (omega arith))) (omega arith))
-      (cases_lt k most_contracts)
+  -- what its deltas weigh, and which lack
+  both : (b : Bool) (o : Option ℤ) → (or_zero (cond b o (Some (pos 0))) ≡ cond b (or_zero o) (pos 0)) × (is_none (cond b o (Some (pos 0))) ≡ (b && is_none o))
+  both true o = (refl, refl)
+  both false o = (refl, refl)
+
+  pub weights : (λ c. or_zero (delta_in cs u d c)) ≡ weight_of cs u d
+  weights = fun_ext (λ c. (both (within cs u c) (delta_at cs d c)).0)
+
+  pub lacks : (λ c. is_none (delta_in cs u d c)) ≡ lacks_delta cs u d
+  lacks = fun_ext (λ c. (both (within cs u c) (delta_at cs d c)).1)

@@ -27,6 +27,10 @@ abbrev pub is_none : {X : Type 0} → Option X → Bool
 is_none None = true
 is_none (Some x) = false
 
+-- the same where contract c is of underlying u, and a weight of 0 where it is not
+abbrev pub delta_in : List Contract → ℕ → (ℕ → Kind → Option ℤ) → ℕ → Option ℤ
+delta_in cs u d c = cond (within cs u c) (delta_at cs d c) (Some (pos 0))
+
 -- what a unit of contract c weighs: its delta where it is of underlying u and has one, else 0
 abbrev pub weight_of : List Contract → ℕ → (ℕ → Kind → Option ℤ) → ℕ → ℤ
 weight_of cs u d c = cond (within cs u c) (or_zero (delta_at cs d c)) (pos 0)

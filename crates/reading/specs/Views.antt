@@ -1,12 +1,16 @@
 -- What a sheet says of each contract.
-use Rattle.std.specs.Prelude.{ℕ, Bool, false, cond, ℤ, pos, nat_lt, slice_index_or}
-use Rattle.terms.specs.Bounds.{most_contracts}
+use Rattle.std.specs.Prelude.{ℕ, Bool, ℤ, pos, Some, Option, slice_index_or}
 use Rattle.reading.specs.declared.sheet.Sheet.{Sheet}
+use Rattle.reading.specs.Sheets.{or_zero, is_none}
+
+-- what a unit of contract c weighs, or none where it lacks a delta; past the last place it weighs nothing
+abbrev pub deltas_of : Sheet → ℕ → Option ℤ
+deltas_of s c = slice_index_or s.deltas c (Some (pos 0))
 
 -- what a unit of contract c weighs
 abbrev pub weights_of : Sheet → ℕ → ℤ
-weights_of s c = cond (nat_lt c most_contracts) (slice_index_or s.weights c (pos 0)) (pos 0)
+weights_of s c = or_zero (deltas_of s c)
 
 -- contract c lacks a delta
 abbrev pub lacking_of : Sheet → ℕ → Bool
-lacking_of s c = cond (nat_lt c most_contracts) (slice_index_or s.lacking c false) false
+lacking_of s c = is_none (deltas_of s c)

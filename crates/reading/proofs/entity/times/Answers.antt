@@ -12,7 +12,7 @@ same c =
     ap₂ part q w
 
 fits : (c : goal.After-from) → SFits w64 (part c.args.quantity c.args.weight)
-fits c = omega (arith, ints, part_small c.args.quantity c.args.weight c.requires.0 c.requires.1)
+fits c = omega (arith, ints, part_small c.args.quantity c.args.weight c.requires.quantity c.requires.weight)
 
 pub overflow_mul-result : goal.overflow_mul-result
 overflow_mul-result c = rw (same c) (fits c)

@@ -1,19 +1,24 @@
-use Rattle.std.proofs.Common.{false, pos, arith}
-use Rattle.reading.specs.Sheets.{weight_of, lacks_delta}
-use Rattle.reading.proofs.Sheets.{array_small, filled, weightless, lackless}
+use Rattle.std.proofs.Common.{ℕ, ◌≤◌, Bool, ℤ, pos, nat_abs, Some, Option, sym, ap, ◌∙◌, subst, rules}
+use Rattle.delta.specs.Sources.{delta_bound}
+use Rattle.reading.specs.Sheets.{or_zero, is_none, delta_in}
+use Rattle.reading.proofs.Sheets.{filled, weightless, delta_small, weights, lacks}
 use Rattle.reading.proofs.sheet.Sheet.new.Goals as goal
 
 pub invariant_of-result : goal.invariant_of-result
 invariant_of-result g c =
     let d = g.D.Delta.answer c.args.source.now in
-    record { bounded = array_small c.args.contracts.now c.args.underlying d (g.D.Delta.lawful c.args.source.now) c.loop-c.weights c.loop-c.invariant.0 (λ k l. c.loop-c.invariant.2 k (omega arith)) }
+    let cs = c.args.chain.contracts.now in
+    let u = c.args.chain.underlying in
+    let deltas = filled (delta_in cs u d) (search rules) c.from_fn.result _ c.from_fn.ensures.items (Some (pos 0)) (weightless cs u d) in
+    record { bounded = λ k. subst (λ (f : ℕ → Option ℤ). nat_abs (or_zero (f k)) ≤ delta_bound) (sym deltas) (delta_small cs u d (g.D.Delta.lawful c.args.source.now) k) }
 
 pub returns : goal.returns
 returns g c =
-    let cs = c.args.contracts.now in
-    let u = c.args.underlying in
     let d = g.D.Delta.answer c.args.source.now in
+    let cs = c.args.chain.contracts.now in
+    let u = c.args.chain.underlying in
+    let deltas = filled (delta_in cs u d) (search rules) c.from_fn.result _ c.from_fn.ensures.items (Some (pos 0)) (weightless cs u d) in
     record {
-      weights = filled c.loop-c.weights (pos 0) (weight_of cs u d) (λ k l. c.loop-c.invariant.2 k (omega arith)) (weightless cs u d);
-      lacking = filled c.loop-c.lacking false (lacks_delta cs u d) (λ k l. c.loop-c.invariant.3 k (omega arith)) (lackless cs u d);
+      weights = ap {B = ℕ → ℤ} (λ (f : ℕ → Option ℤ) k. or_zero (f k)) deltas ∙ weights cs u d;
+      lacking = ap {B = ℕ → Bool} (λ (f : ℕ → Option ℤ) k. is_none (f k)) deltas ∙ lacks cs u d;
     }

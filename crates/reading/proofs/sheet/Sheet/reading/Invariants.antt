@@ -2,9 +2,9 @@ use Rattle.std.proofs.Common.{◌≡◌, ℕ, ℤ, pos}
 use Rattle.reading.specs.Sums.{sum_below}
 use Rattle.reading.specs.Readings.{part, up, down}
 use Rattle.reading.specs.Views.{weights_of}
-use Rattle.reading.proofs.entity.reading.Given as goal
+use Rattle.reading.proofs.sheet.Sheet.reading.Given as goal
 
 abbrev pub invariant-loop-c : goal.invariant-loop-c
 invariant-loop-c g l =
-    let p : ℕ → ℤ = λ c. part ((g.H.Holds.held l.holder).at l.entity c) (weights_of l.sheet c) in
+    let p : ℕ → ℤ = λ c. part ((g.H.Holds.held l.holder).at l.entity c) (weights_of l.self c) in
     (l.long ≡ pos (sum_below l.c (λ c. up (p c)))) × (l.short ≡ pos (sum_below l.c (λ c. down (p c))))
