@@ -1,25 +1,15 @@
 -- How large a part and a reading can be.
-use Rattle.std.proofs.Common.{◌≡◌, ℕ, zero, suc, ◌+◌, ◌*◌, ◌≤◌, ℤ, pos, negsuc, ◌-ℤ◌, ◌*ℤ◌, neg_ℤ, nat_abs, refl, arith}
+use Rattle.std.proofs.Common.{◌≡◌, ℕ, ◌+◌, ◌*◌, ◌≤◌, ℤ, pos, negsuc, ◌-ℤ◌, nat_abs, arith}
 use Rattle.std.proofs.lemmas.Nat.{mul-le}
-use Rattle.std.proofs.lemmas.Int.{ints}
+use Rattle.std.proofs.lemmas.Int.{ints, unsigned_abs-mul}
 use Rattle.terms.specs.Bounds.{quantity_bound, most_contracts}
 use Rattle.delta.specs.Sources.{delta_bound}
 use Rattle.reading.specs.Sums.{sum_below}
 use Rattle.reading.specs.Readings.{part, part_bound, reading_bound, up, down, net, long, short, interest, gross}
 use Rattle.reading.proofs.Sums.{sum_small, net_is}
 
-nat_abs_neg : (n : ℕ) → nat_abs (neg_ℤ (pos n)) ≡ n
-nat_abs_neg zero = refl
-nat_abs_neg (suc n) = refl
-
-nat_abs_times : (a b : ℤ) → nat_abs (a *ℤ b) ≡ nat_abs a * nat_abs b
-nat_abs_times (pos a) (pos b) = refl
-nat_abs_times (pos a) (negsuc b) = nat_abs_neg (a * suc b)
-nat_abs_times (negsuc a) (pos b) = nat_abs_neg (suc a * b)
-nat_abs_times (negsuc a) (negsuc b) = refl
-
 pub part_small : (q w : ℤ) → nat_abs q ≤ quantity_bound → nat_abs w ≤ delta_bound → nat_abs (part q w) ≤ part_bound
-part_small q w h k = rw (nat_abs_times q w) (mul-le (nat_abs q) (nat_abs w) quantity_bound delta_bound h k)
+part_small q w h k = rw (unsigned_abs-mul q w) (mul-le (nat_abs q) (nat_abs w) quantity_bound delta_bound h k)
 
 pub up_small : (z : ℤ) → up z ≤ nat_abs z
 up_small (pos n) = omega arith

@@ -1,4 +1,4 @@
--- The cells of the base: zeros at first, and one written.
+-- The cells of the base: all zero at first, and one written.
 use Rattle.std.proofs.Common.{◌≡◌, ℕ, zero, suc, ◌+◌, ◌*◌, ◌<◌, ◌≤◌, ◌&&◌, ltb, ◌≢◌, ◌⊎◌, List, length, get_or, set, replicate, ℤ, pos, nat_abs, refl, ⊎_elim, arith}
 use mathlib.Core.Path.{fun_ext}
 use Rattle.std.proofs.lemmas.List.{get_or-set_same, get_or-set_other}
@@ -8,14 +8,14 @@ use Rattle.terms.specs.Bounds.{quantity_bound, most_entities, most_contracts, mo
 use Rattle.book.specs.Holding.{gridded, put, blank}
 use Rattle.stock.specs.Close.{base_of}
 
--- ---- zeros
-pub nought : (n k : ℕ) → get_or (replicate n (pos 0)) k (pos 0) ≡ pos 0
-nought zero k = refl
-nought (suc n) zero = refl
-nought (suc n) (suc k) = nought n k
+-- ---- cells that are all alike
+pub alike : {A : Type 0} (x : A) (n k : ℕ) → get_or (replicate n x) k x ≡ x
+alike x zero k = refl
+alike x (suc n) zero = refl
+alike x (suc n) (suc k) = alike x n k
 
 pub nought_small : (n k : ℕ) → nat_abs (get_or (replicate n (pos 0)) k (pos 0)) ≤ quantity_bound
-nought_small n k = rw (nought n k) (omega arith)
+nought_small n k = rw (alike (pos 0) n k) (omega arith)
 
 pub new_base_is : (n : ℕ) → gridded most_entities most_contracts (replicate n (pos 0)) ≡ blank most_entities most_contracts most_pairs
 unfolding gridded
@@ -24,7 +24,7 @@ new_base_is n = λ s. record { entities = most_entities; contracts = most_contra
     spot : (e c : ℕ) → (gridded most_entities most_contracts (replicate n (pos 0))).at e c ≡ pos 0
     spot e c =
         cond_both (ltb e most_entities && ltb c most_contracts) (get_or (replicate n (pos 0)) (e * most_contracts + c) (pos 0)) (pos 0) (λ z. z ≡ pos 0)
-        (λ _. nought n (e * most_contracts + c))
+        (λ _. alike (pos 0) n (e * most_contracts + c))
         (λ _. refl)
 
 -- ---- one cell read

@@ -1,5 +1,5 @@
 -- One entity more, and one contract more: the step of each loop, over any quantities.
-use Rattle.std.proofs.Common.{◌≡◌, ℕ, zero, suc, ◌+◌, ◌<◌, ◌≤◌, Bool, true, false, cond, not, ◌&&◌, eqb, ltb, List, length, get_or, set, replicate, ℤ, sym, refl, ap, ◌∙◌, ap₂, arith}
+use Rattle.std.proofs.Common.{◌≡◌, ℕ, ◌+◌, ◌<◌, ◌≤◌, Bool, true, false, cond, not, ◌&&◌, eqb, ltb, List, length, get_or, set, replicate, ℤ, is_some, Some, None, Option, sym, refl, ap, ◌∙◌, ap₂, arith}
 use mathlib.Core.Path.{fun_ext}
 use mir.Val.{bool_byte}
 use Rattle.std.proofs.lemmas.List.{get_or-set_same, get_or-set_other}
@@ -12,10 +12,12 @@ use Rattle.reading.specs.Readings.{part, net}
 use Rattle.reading.proofs.Sums.{sum_more, sum_small}
 use Rattle.rules.specs.Charge.{charge_of}
 use Rattle.rules.specs.Violation.{between, violation}
+use Rattle.stock.specs.declared.violation.Violation.{Violation}
 use Rattle.stock.specs.declared.turn.Turn.{Turn}
 use Rattle.stock.specs.declared.turn.Turn.TheVariants.{NoBan, Begins, Holds, Ends}
-use Rattle.stock.specs.Close.{judges, obeys, new_pair, closed_base, row_of}
+use Rattle.stock.specs.Close.{judges, obeys, new_pair, closed_base, closed_violated, closed_charge, quantity_or_zero, charge_or_zero}
 use Rattle.stock.specs.Steps.{with_row, found}
+use Rattle.stock.proofs.Cells.{alike}
 
 -- ---- the contracts of one entity
 module _ (s : ℕ → Bool) (e : ℕ) (row : ℕ → ℤ) (old : ℕ → ℕ → ℤ) where
@@ -53,32 +55,65 @@ module _ (s : ℕ → Bool) (e : ℕ) (row : ℕ → ℤ) (old : ℕ → ℕ →
   ended i q g h = g ∙ fun_ext (λ f. fun_ext (ended_at i h f))
 
 -- ---- one entity judged
-pub judged : (t : Turn) (w : ℕ → ℤ) (base book : ℕ → ℕ → ℤ) (e : ℕ) (b : Bool) (v : ℕ) (x y : ℤ) → judges t ≡ true → x ≡ net w base e → y ≡ net w book e → b ≡ between x y → v ≡ violation x y → (not b, v) ≡ found t w base book e
-judged t w base book e b v x y j hx hy hb hv =
-    rw j (λ i. (not ((hb ∙ ap₂ between hx hy) i), (hv ∙ ap₂ violation hx hy) i))
+pub obeyed : (t : Turn) (x y : ℤ) (price : ℕ) → between x y ≡ true → None ≡ found t x y price
+obeyed t x y price h = rw h (none (judges t) _)
+  where
+    none : (j : Bool) (v : Violation) → None ≡ cond (j && not true) (Some v) None
+    none true v = refl
+    none false v = refl
+
+pub violating : (t : Turn) (x y : ℤ) (price v k : ℕ) → judges t ≡ true → between x y ≡ false → v ≡ violation x y → k ≡ charge_of v price → Some (record { quantity = v; charge = k }) ≡ found t x y price
+violating t x y price v k j h e f =
+    (λ i. Some (record { quantity = e i; charge = (f ∙ ap (λ n. charge_of n price) e) i })) ∙ rw (j, h) refl
 
 -- ---- the entities of a stock
--- a row of numbers that are zero where nobody is judged
-module _ (j : Bool) (v : ℕ → ℕ) where
-  abbrev pub below : ℕ → ℕ → ℕ
-  below i e = cond (ltb e i && j) (v e) 0
+-- a row of what each of the first i entities violates and is charged
+module _ (v : ℕ → Option Violation) where
+  abbrev pub below : ℕ → ℕ → Option Violation
+  below i e = cond (ltb e i) (v e) None
 
-  zeros : (n e : ℕ) → ◌≡◌ {A = ℕ} (get_or (replicate n 0) e 0) 0
-  zeros zero e = refl
-  zeros (suc n) zero = refl
-  zeros (suc n) (suc e) = zeros n e
-
-  no_row_at : (e : ℕ) → ◌≡◌ {A = ℕ} 0 (below 0 e)
+  no_row_at : (e : ℕ) → None ≡ below 0 e
   no_row_at e = grind (arith, nat_tests)
 
-  pub no_row : (n : ℕ) → row_of (replicate n 0) ≡ below 0
-  no_row n = fun_ext (λ e. zeros n e ∙ no_row_at e)
+  pub no_row : (n : ℕ) → (λ e. get_or (replicate n None) e None) ≡ below 0
+  no_row n = fun_ext (λ e. alike None n e ∙ no_row_at e)
 
-  row_at : (l : List ℕ) (i x : ℕ) → i < length l → x ≡ cond j (v i) 0 → (e : ℕ) → row_of l e ≡ below i e → row_of (set l i x) e ≡ below (i + 1) e
+  row_at : (l : List (Option Violation)) (i : ℕ) (x : Option Violation) → i < length l → x ≡ v i → (e : ℕ) → get_or l e None ≡ below i e → get_or (set l i x) e None ≡ below (i + 1) e
   row_at l i x h g e r = grind (arith, nat_tests, get_or-set_same, get_or-set_other)
 
-  pub row_more : (l : List ℕ) (i x : ℕ) → i < length l → x ≡ cond j (v i) 0 → row_of l ≡ below i → row_of (set l i x) ≡ below (i + 1)
-  row_more l i x h g r = fun_ext (λ e. row_at l i x h g e (ap (λ (f : ℕ → ℕ). f e) r))
+  pub row_more : (l : List (Option Violation)) (i : ℕ) (x : Option Violation) → i < length l → x ≡ v i → (λ e. get_or l e None) ≡ below i → (λ e. get_or (set l i x) e None) ≡ below (i + 1)
+  row_more l i x h g r = fun_ext (λ e. row_at l i x h g e (ap (λ (f : ℕ → Option Violation). f e) r))
+
+-- what is read of a row: zero where nobody is judged
+quantity_at : (a j b : Bool) (m price : ℕ) → quantity_or_zero (cond a (cond (j && not b) (Some (record { quantity = cond b 0 m; charge = charge_of (cond b 0 m) price })) None) None) ≡ cond (a && j) (cond b 0 m) 0
+quantity_at true true true m price = refl
+quantity_at true true false m price = refl
+quantity_at true false b m price = refl
+quantity_at false j b m price = refl
+
+charge_at : (a j b : Bool) (m price : ℕ) → charge_or_zero (cond a (cond (j && not b) (Some (record { quantity = cond b 0 m; charge = charge_of (cond b 0 m) price })) None) None) ≡ cond (a && j) (charge_of (cond b 0 m) price) 0
+charge_at true true true m price = refl
+charge_at true true false m price = refl
+charge_at true false b m price = refl
+charge_at false j b m price = refl
+
+-- whether a violation was found
+is_found : (c : Bool) (v : Violation) → is_some (cond c (Some v) None) ≡ c
+is_found true v = refl
+is_found false v = refl
+
+module _ (t : Turn) (w : ℕ → ℤ) (old book : ℕ → ℕ → ℤ) (price : ℕ) where
+  abbrev pub each : ℕ → Option Violation
+  each e = found t (net w old e) (net w book e) price
+
+  pub quantities : (n : ℕ) → (λ e. quantity_or_zero (below each n e)) ≡ closed_violated n t w old book
+  quantities n = fun_ext (λ e. quantity_at (ltb e n) (judges t) (between (net w old e) (net w book e)) _ price)
+
+  pub charges : (n : ℕ) → (λ e. charge_or_zero (below each n e)) ≡ closed_charge n t w old book price
+  charges n = fun_ext (λ e. charge_at (ltb e n) (judges t) (between (net w old e) (net w book e)) _ price)
+
+  pub charged : (e : ℕ) → is_some (each e) ≡ (judges t && not (obeys w old book e))
+  charged e = is_found _ _
 
 -- where nobody is judged, it makes no difference whether an entity obeys
 settled : (t : Turn) (ok : Bool) (x y : ℤ) → new_pair t (not (judges t && not ok)) x y ≡ new_pair t ok x y
@@ -115,9 +150,8 @@ module _ (s : ℕ → Bool) (t : Turn) (w : ℕ → ℤ) (old book : ℕ → ℕ
     net_same = ap (λ (row : ℕ → ℤ). total_below most_contracts (λ c. part (row c) (w c))) unreached
 
     -- so it is judged by the base at the start
-    pub found_same : (x : Bool × ℕ) → x ≡ found t w q book i → x ≡ found t w old book i
-    found_same x g =
-        g ∙ ap (λ n. (judges t && not (between n (net w book i)), cond (judges t) (violation n (net w book i)) 0)) net_same
+    pub found_same : (price : ℕ) → found t (net w q i) (net w book i) price ≡ found t (net w old i) (net w book i) price
+    found_same price = ap (λ n. found t n (net w book i) price) net_same
 
     -- and its base becomes what the close of one entity more makes of it
     pub base_more : (b : Bool) (r : ℕ → ℕ → ℤ) → b ≡ (judges t && not (obeys w old book i)) → r ≡ with_row s i (λ c. new_pair t (not b) (book i c) (q i c)) q → r ≡ closed (i + 1)
@@ -144,11 +178,3 @@ charged_few p n =
 pub byte_le : (b : Bool) → bool_byte b ≤ 1
 byte_le true = omega arith
 byte_le false = omega arith
-
--- ---- what an entity is charged
-pub charge_found : (j : Bool) (v price x y : ℕ) → x ≡ cond j v 0 → y ≡ charge_of x price → y ≡ cond j (charge_of v price) 0
-charge_found j v price x y g h = h ∙ (ap (λ n. charge_of n price) g ∙ at j)
-  where
-    at : (j : Bool) → charge_of (cond j v 0) price ≡ cond j (charge_of v price) 0
-    at true = refl
-    at false = refl

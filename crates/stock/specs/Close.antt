@@ -1,6 +1,6 @@
 -- What a stock's close makes of its ban, of the base, and of those it judges.
 -- base and book have the quantity of each entity and contract; w has what a unit of each contract weighs at two o'clock.
-use Rattle.std.specs.Prelude.{ℕ, Bool, true, false, cond, not, ◌&&◌, List, ℤ, pos, nat_lt, slice_index}
+use Rattle.std.specs.Prelude.{ℕ, Bool, true, false, cond, not, ◌&&◌, List, ℤ, pos, Some, None, Option, nat_lt, slice_index_or}
 use Rattle.terms.specs.Bounds.{most_entities, most_contracts}
 use Rattle.book.specs.Holding.{gridded}
 use Rattle.reading.specs.Sums.{count_below}
@@ -9,6 +9,7 @@ use Rattle.rules.specs.Charge.{charge_of}
 use Rattle.rules.specs.Violation.{between, violation}
 use Rattle.stock.specs.declared.turn.Turn.{Turn}
 use Rattle.stock.specs.declared.turn.Turn.TheVariants.{NoBan, Begins, Holds, Ends}
+use Rattle.stock.specs.declared.violation.Violation.{Violation}
 
 -- what becomes of a ban: one that there was ends or holds on, and where there was none one begins or not
 abbrev pub turn_of : Bool → Bool → Bool → Turn
@@ -65,6 +66,20 @@ charged_count n turn w base book = count_below n (λ e. judges turn && not (obey
 abbrev pub base_of : List ℤ → ℕ → ℕ → ℤ
 base_of cells = (gridded most_entities most_contracts cells).at
 
--- a row with a number for each entity
-abbrev pub row_of : List ℕ → ℕ → ℕ
-row_of row e = slice_index row e
+-- what a violation's quantity is, 0 where there is none
+abbrev pub quantity_or_zero : Option Violation → ℕ
+quantity_or_zero None = 0
+quantity_or_zero (Some v) = v.quantity
+
+-- what its charge is, 0 where there is none
+abbrev pub charge_or_zero : Option Violation → ℕ
+charge_or_zero None = 0
+charge_or_zero (Some v) = v.charge
+
+-- the violated quantity of each entity, in a row with the violation of each, or none
+abbrev pub violated_in : List (Option Violation) → ℕ → ℕ
+violated_in row e = quantity_or_zero (slice_index_or row e None)
+
+-- the charge of each, likewise
+abbrev pub charge_in : List (Option Violation) → ℕ → ℕ
+charge_in row e = charge_or_zero (slice_index_or row e None)

@@ -4,3 +4,4 @@
 pub mod base;
 pub mod close;
 pub mod turn;
+pub mod violation;

@@ -5,7 +5,7 @@ ghost use Rattle.stock.specs.Close.{turn_of, judges, in_force};
 
 use rules::ban;
 
-#[derive(Clone, Copy)]
+#[derive(Clone, Copy, PartialEq, Eq, Debug)]
 pub enum Turn {
     // There is none.
     NoBan,
@@ -22,16 +22,11 @@ impl Turn {
     pub fn decide(banned: bool, limit: u64, interest: u128) -> Turn
         ensures { result ≡ turn_of banned (begins limit interest) (ends limit interest) }
     {
-        if banned {
-            if ban::ends(limit, interest) {
-                Turn::Ends
-            } else {
-                Turn::Holds
-            }
-        } else if ban::begins(limit, interest) {
-            Turn::Begins
-        } else {
-            Turn::NoBan
+        match banned {
+            true if ban::ends(limit, interest) => Turn::Ends,
+            true => Turn::Holds,
+            false if ban::begins(limit, interest) => Turn::Begins,
+            false => Turn::NoBan,
         }
     }
 
@@ -39,19 +34,13 @@ impl Turn {
     pub fn judges(self) -> bool
         ensures { result ≡ judges self }
     {
-        match self {
-            Turn::Holds | Turn::Ends => true,
-            Turn::NoBan | Turn::Begins => false,
-        }
+        matches!(self, Turn::Holds | Turn::Ends)
     }
 
     // Whether there is a ban from now on.
     pub fn in_force(self) -> bool
         ensures { result ≡ in_force self }
     {
-        match self {
-            Turn::Begins | Turn::Holds => true,
-            Turn::NoBan | Turn::Ends => false,
-        }
+        matches!(self, Turn::Begins | Turn::Holds)
     }
 }

@@ -5,22 +5,22 @@ use Rattle.reading.specs.Sheets.{within}
 use Rattle.stock.specs.Close.{base_of}
 use Rattle.stock.proofs.Moves.{none, one, skip, ended}
 use Rattle.stock.proofs.base.Base.copy_entity.Goals as goal
-use Rattle.stock.proofs.base.Base.copy_entity.Goals.{then-is_within, else-is_within}
+use Rattle.stock.proofs.base.Base.copy_entity.Goals.{then-has, else-has}
 
 pub loop-c-init : goal.loop-c-init
 loop-c-init g c = none _ _ _ _
 
 pub loop-c-preserved : goal.loop-c-preserved
 loop-c-preserved g c =
-    let s = within c.args.contracts.now c.args.underlying in
-    let row = (g.H.Holds.held c.args.from.now).at c.args.entity in
+    let s = within c.args.chain.contracts.now c.args.chain.underlying in
+    let row = (g.H.Holds.held c.args.from.now).at c.args.entity.number in
     let old = base_of c.args.self.now.cells in
     let q = base_of c.loop-c.self.cells in
-    elim c.if-is_within.branch [
-      | then-is_within w ↦
-          simp w.self-is (one s c.args.entity row old c.loop-c.c q _ _ c.loop-c.invariant c.is_within.ensures w.if-is_within.true w.copy_pair.ensures)
-      | else-is_within w ↦
-          simp w.self-is (skip s c.args.entity row old c.loop-c.c q _ c.loop-c.invariant c.is_within.ensures w.if-is_within.false)
+    elim c.if-has.branch [
+      | then-has w ↦
+          simp w.self-is (one s c.args.entity.number row old c.loop-c.c q _ _ c.loop-c.invariant c.has.ensures w.if-has.true w.copy_pair.ensures)
+      | else-has w ↦
+          simp w.self-is (skip s c.args.entity.number row old c.loop-c.c q _ c.loop-c.invariant c.has.ensures w.if-has.false)
     ]
 
 pub returns : goal.returns
