@@ -1,20 +1,12 @@
--- A pass over the daily deliveries, and how much they come to.
-use Rattle.std.proofs.Common.{◌≡◌, ℕ, ◌+◌, ◌*◌, ◌<◌, ◌≤◌, true, false, ◌&&◌, leb, List, [], ◌∷◌, length, get_or, drop, sum, ap, ◌∙◌, arith}
+-- What accepted deliveries are, and how much they come to.
+use Rattle.std.proofs.Common.{◌≡◌, ℕ, ◌*◌, ◌≤◌, true, leb, List, [], ◌∷◌, length, sum, arith}
 use Rattle.std.specs.List.{AllByRecursion as All}
-use Rattle.std.proofs.lemmas.List.{at_drop_more}
 use Rattle.std.proofs.ByRecursion.{sum_by_le}
-use Rattle.std.proofs.lemmas.Bool.{and_parts, leb-true, le-leb, lt-leb}
+use Rattle.std.proofs.lemmas.Bool.{and_parts, leb-true}
 use Rattle.rules.specs.Bounds.{float_least, float_most, days_least, days_most, delivery_most}
 use Rattle.rules.specs.Limit.{are_in_range, is_accepted}
 
--- past a delivery in range, the later ones decide
-pub range_past : (daily : List ℕ) (i : ℕ) → i < length daily → get_or daily i 0 ≤ delivery_most → are_in_range (drop i daily) ≡ are_in_range (drop (i + 1) daily)
-range_past daily i h k = at_drop_more are_in_range daily i 0 h ∙ ap (λ b. b && are_in_range (drop (i + 1) daily)) (le-leb (get_or daily i 0) delivery_most k)
-
--- at a delivery out of range, all is decided
-pub range_left : (daily : List ℕ) (i : ℕ) → i < length daily → delivery_most < get_or daily i 0 → are_in_range (drop i daily) ≡ false
-range_left daily i h k = at_drop_more are_in_range daily i 0 h ∙ ap (λ b. b && are_in_range (drop (i + 1) daily)) (lt-leb (get_or daily i 0) delivery_most k)
-
+-- no delivery of a list in range is above the largest
 all_in_range : (daily : List ℕ) → are_in_range daily ≡ true → All (λ d. d ≤ delivery_most) daily
 all_in_range [] h = tt
 all_in_range (d ∷ later) h = let p = and_parts (leb d delivery_most) (are_in_range later) h in (leb-true d delivery_most p.0, all_in_range later p.1)

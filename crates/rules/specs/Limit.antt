@@ -1,5 +1,6 @@
 -- The market-wide limit of a stock, in units: by exact fractions, rounded down once at the end.
-use Rattle.std.specs.Prelude.{ℕ, ◌*◌, ◌/◌, ◌≤◌, Bool, true, cond, ◌&&◌, List, [], ◌∷◌, length, Ok, Err, sum, Result, nat_le, nat_lt}
+use Rattle.std.specs.Prelude.{ℕ, ◌*◌, ◌/◌, ◌≤◌, Bool, cond, ◌&&◌, List, length, Ok, Err, sum, Result, nat_le, nat_lt}
+use Rattle.std.specs.List.{list_all}
 use Rattle.terms.specs.declared.refusal.Refusal.{Refusal}
 use Rattle.terms.specs.declared.refusal.Refusal.TheVariants.{Input}
 use Rattle.rules.specs.declared.fraction.Fraction.{Fraction}
@@ -35,8 +36,7 @@ limit_of free daily = rounded_down (larger (share floor_share free) (smaller (sh
 
 -- no day's delivery is above the largest
 abbrev pub are_in_range : List ℕ → Bool
-are_in_range [] = true
-are_in_range (delivery ∷ later) = nat_le delivery delivery_most && are_in_range later
+are_in_range daily = list_all (λ delivery. nat_le delivery delivery_most) daily
 
 -- the free float, the number of days and every delivery are in range
 abbrev pub is_accepted : ℕ → List ℕ → Bool

@@ -12,5 +12,6 @@ pub fn charge(violated: u64, price: u64) -> u64
         return 0;
     }
     let paise = u128::from(violated) * u128::from(price) / u128::from(CHARGE_DIVISOR);
+    // The cast is proved to lose nothing, and `try_from` would ask for an answer where it did.
     paise.clamp(u128::from(CHARGE_LEAST), u128::from(CHARGE_MOST)) as u64
 }

@@ -8,7 +8,9 @@ pub struct Fraction {
     pub bottom: u64,
 }
 
+// An order by three functions: impls from PartialEq to Ord would be four, each with laws that fail where a bottom is 0.
 impl Fraction {
+    // Whether this one is less.
     fn is_below(self, other: Fraction) -> bool
         ensures { result ≡ below self other }
     {

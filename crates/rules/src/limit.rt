@@ -14,23 +14,15 @@ use terms::refusal::Refusal;
 fn are_in_range(deliveries: &[u64]) -> bool
     ensures { result ≡ are_in_range deliveries.now }
 {
-    for delivery in deliveries {
-        if *delivery > DELIVERY_MOST {
-            return false;
-        }
-    }
-    true
+    deliveries.iter().all(|delivery| *delivery <= DELIVERY_MOST)
 }
 
 // Whether the free float, the number of days and every delivery are in range.
 fn is_accepted(free_float: u64, deliveries: &[u64]) -> bool
     ensures { result ≡ is_accepted free_float deliveries.now }
 {
-    let days = deliveries.len();
-    FLOAT_LEAST <= free_float
-        && free_float <= FLOAT_MOST
-        && DAYS_LEAST <= days
-        && days <= DAYS_MOST
+    (FLOAT_LEAST..=FLOAT_MOST).contains(&free_float)
+        && (DAYS_LEAST..=DAYS_MOST).contains(&deliveries.len())
         && are_in_range(deliveries)
 }
 
@@ -57,6 +49,7 @@ fn limit_of(free_float: u64, deliveries: &[u64]) -> u64
     };
     let averages = Fraction {
         top: AVERAGE_TIMES * total(deliveries),
+        // No `From` makes a u64 of a length.
         bottom: deliveries.len() as u64,
     };
     floor.larger(ceiling.smaller(averages)).rounded_down()
@@ -67,9 +60,8 @@ pub fn limit(free_float: u64, deliveries: &[u64]) -> Result<u64, Refusal>
     ensures value { result ≡ limit_asked free_float deliveries.now }
     ensures facts { MatchResult result (LimitFacts free_float) (λ cause. cause ≡ Input) }
 {
-    if is_accepted(free_float, deliveries) {
-        Ok(limit_of(free_float, deliveries))
-    } else {
-        Err(Refusal::Input)
+    if !is_accepted(free_float, deliveries) {
+        return Err(Refusal::Input);
     }
+    Ok(limit_of(free_float, deliveries))
 }

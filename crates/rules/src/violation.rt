@@ -6,7 +6,7 @@ ghost use Rattle.rules.specs.Violation.{between, opposite, violation};
 pub fn lies_between(x: i64, y: i64) -> bool
     ensures { result ≡ between x y }
 {
-    (0 <= y && y <= x) || (x <= y && y <= 0)
+    (0..=x).contains(&y) || (x..=0).contains(&y)
 }
 
 // Whether one is long and the other short.
