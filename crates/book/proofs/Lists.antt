@@ -1,7 +1,10 @@
 -- A list's meaning, by the table of its rows.
-use Rattle.std.proofs.Common.{◌≡◌, ℕ, ◌+◌, ◌-◌, ◌*◌, ◌<◌, min, Bool, true, false, cond, not, ◌&&◌, ◌||◌, T, eqb, ltb, leb, ◌≢◌, ℤ, pos, negsuc, ◌+ℤ◌, nat_abs, is_some, Some, None, Ok, Err, Option, Result, sym, refl, ap, ◌∙◌, subst, ap₂, ⊎_elim, arith, w64, SFits, to_z, of_z}
+use Rattle.std.proofs.Common.{◌≡◌, ℕ, ◌+◌, ◌-◌, ◌*◌, ◌<◌, ◌≤◌, min, Bool, true, false, cond, not, ◌&&◌, ◌||◌, T, eqb, ltb, leb, ◌≢◌, ℤ, pos, negsuc, ◌+ℤ◌, nat_abs, is_some, Some, None, Ok, Err, Option, Result, sym, refl, ap, ◌∙◌, subst, ap₂, ⊎_elim, arith, w64, SFits, to_z, of_z}
 use mathlib.Core.Path.{fun_ext}
 use Rattle.std.specs.Map.{update}
+use Rattle.std.specs.Ordering.{nat_cmp}
+use Rattle.std.specs.Cmp.{nat_cmp_total}
+use Rattle.std.specs.FinMap.{insert, get-insert, get-remove, get-empty, len-insert, len-remove, len-empty}
 use Rattle.std.proofs.lemmas.Map.{update_here, update_apart}
 use Rattle.std.proofs.lemmas.Int.{ints}
 use Rattle.std.proofs.lemmas.Bool.{cond-true, cond-false, cond_both, cases_Bool, eq-eqb, ne_eqb, eqb-true, and_parts, and_left, and_right, and_from, lt-ltb, ltb-true, leb-true, both_ways}
@@ -9,9 +12,9 @@ use Rattle.std.proofs.lemmas.Bool.Decides.{nat_tests}
 use Rattle.terms.specs.Bounds.{quantity_bound, most_pairs}
 use Rattle.terms.specs.declared.refusal.Refusal.{Refusal}
 use Rattle.terms.specs.declared.refusal.Refusal.TheVariants.{Pair, Full}
-use Rattle.book.specs.Tables.{Table, put_reply, put_into, putted, removed, emptied}
+use Rattle.book.specs.Tables.{Table, size, value_of, taken, put_reply, putted, removed, emptied}
 use Rattle.book.specs.Holding.{Holding, inside, is_zero, small, nonzeros, count, blocked, reply, put, with_pair, posted, place_of, sum_of}
-use Rattle.book.specs.Listed.{amount, proper, spread, listed, listed_count, new_list}
+use Rattle.book.specs.Listed.{amount, proper, spread, listed, listed_count, Stored, new_list}
 use Rattle.book.specs.Soundness.{bit}
 use Rattle.book.proofs.Counts.{nonzeros_none, nonzeros_written}
 use Rattle.book.proofs.Grids.{same_place, placed_some, placed_none}
@@ -79,9 +82,6 @@ module _ (e c : ℕ) (f : ℕ → Option ℤ) (i j key : ℕ) (p : Some key ≡ 
       ∙ nonzeros_written (spread e c f) i j (amount w) e c q.0 q.1
 
 -- ---- rows that may be stored
-abbrev Proper : Table ℤ → Type 0
-Proper t = (k : ℕ) → T (proper (t.at k))
-
 right : (a b : Bool) → T (a && not b) → b ≡ false
 right true true h = absurd h
 right true false h = refl
@@ -97,89 +97,105 @@ proper_some z h k = subst T (sym (and_from (small z) (not (is_zero z)) h (ap not
 proper_put : (f : ℕ → Option ℤ) (key : ℕ) (w : Option ℤ) → T (proper w) → ((k : ℕ) → T (proper (f k))) → (k : ℕ) → T (proper (update eqb f key w k))
 proper_put f key w h g k = cond_both (eqb key k) w (f k) (λ o. T (proper o)) (λ _. h) (λ _. g k)
 
--- what a list keeps of its table, at an equal one
-keeps : (e c : ℕ) (t t' : Table ℤ) → t' ≡ t → Proper t → t.size ≡ listed_count e c t → Proper t' × (t'.size ≡ listed_count e c t')
-keeps e c t t' s a b = subst (λ (x : Table ℤ). Proper x × (x.size ≡ listed_count e c x)) (sym s) (a, b)
-
 nat_abs_zero : (z : ℤ) → nat_abs z ≡ 0 → z ≡ pos 0
 nat_abs_zero (pos n) e = ap pos e
 nat_abs_zero (negsuc n) e = absurd (omega arith)
 
+-- ---- what a put and a removal leave, at each key
 module _ (t : Table ℤ) (key : ℕ) where
-  -- a put is accepted
-  abbrev open_for : Bool
-  open_for = is_some (t.at key) || ltb t.size t.capacity
+  abbrev grown : ℤ → Table ℤ
+  grown q = record { capacity = t.capacity; rows = insert t.rows key q }
 
-  put_ok : (o : Option ℤ) → Ok o ≡ put_reply t key → open_for ≡ true
+  gets_grown : (q : ℤ) → value_of (grown q) ≡ update eqb (value_of t) key (Some q)
+  gets_grown q = fun_ext (λ k. get-insert nat_cmp_total t.rows key q k ∙ grind (arith, nat_tests))
+
+  gets_removed : value_of (removed t key) ≡ update eqb (value_of t) key None
+  gets_removed = fun_ext (λ k. get-remove nat_cmp_total t.rows key k ∙ grind (arith, nat_tests))
+
+  put_ok : (o : Option ℤ) → Ok o ≡ put_reply t key → taken t key ≡ true
   put_ok o h =
       ⊎_elim (λ u. u)
-      (λ u. let e = h ∙ cond-false open_for (Ok (t.at key)) (Err Full) u in absurd (let z : ◌≡◌ {A = ℕ} 0 1 = cc in omega arith))
-      (cases_Bool open_for)
+      (λ u. let e = h ∙ cond-false (taken t key) (Ok (value_of t key)) (Err Full) u in absurd (let z : ◌≡◌ {A = ℕ} 0 1 = cc in omega arith))
+      (cases_Bool (taken t key))
 
-  put_err : (x : Refusal) → Err x ≡ put_reply t key → (open_for ≡ false) × (x ≡ Full)
+  put_err : (x : Refusal) → Err x ≡ put_reply t key → (taken t key ≡ false) × (x ≡ Full)
   put_err x h =
       ⊎_elim
-      (λ u. let e = h ∙ cond-true open_for (Ok (t.at key)) (Err Full) u in absurd (let z : ◌≡◌ {A = ℕ} 0 1 = cc in omega arith))
-      (λ u. let e = h ∙ cond-false open_for (Ok (t.at key)) (Err Full) u in (u, (cc)))
-      (cases_Bool open_for)
+      (λ u. let e = h ∙ cond-true (taken t key) (Ok (value_of t key)) (Err Full) u in absurd (let z : ◌≡◌ {A = ℕ} 0 1 = cc in omega arith))
+      (λ u. let e = h ∙ cond-false (taken t key) (Ok (value_of t key)) (Err Full) u in (u, (cc)))
+      (cases_Bool (taken t key))
 
-  abbrev grown : ℤ → Table ℤ
-  grown q = put_into t key q (Ok (t.at key))
+  putted_ok : (q : ℤ) → taken t key ≡ true → putted t key q ≡ grown q
+  putted_ok q u = cond-true (taken t key) _ _ u
 
-  putted_ok : (q : ℤ) → open_for ≡ true → putted t key q ≡ grown q
-  putted_ok q u = ap (put_into t key q) (cond-true open_for (Ok (t.at key)) (Err Full) u)
-
-  putted_err : (q : ℤ) → open_for ≡ false → putted t key q ≡ t
-  putted_err q u = ap (put_into t key q) (cond-false open_for (Ok (t.at key)) (Err Full) u)
+  putted_err : (q : ℤ) → taken t key ≡ false → putted t key q ≡ t
+  putted_err q u = cond-false (taken t key) _ _ u
 
 -- ---- what a post does
-module _ (e c : ℕ) (t : Table ℤ) (stored : Proper t) (counted : t.size ≡ listed_count e c t) (i j key : ℕ) (p : Some key ≡ place_of e c i j) where
+module _ (e c : ℕ) (t : Table ℤ) (s : Stored e c t) (i j key : ℕ) (p : Some key ≡ place_of e c i j) where
   abbrev book : Holding
   book = listed e c t
 
-  pub old_is : amount (t.at key) ≡ book.at i j
+  pub old_is : amount (value_of t key) ≡ book.at i j
   unfolding listed
-  old_is = spread_at e c t.at i j key p
+  old_is = spread_at e c (value_of t) i j key p
 
   is_inside : inside book i j ≡ true
   unfolding listed
-  is_inside = spread_inside e c t.at i j key p
+  is_inside = spread_inside e c (value_of t) i j key p
 
-  count_is : count book ≡ t.size
+  count_is : count book ≡ size t
   unfolding listed count
-  count_is = sym counted
+  count_is = sym s.counted
 
   -- the row is removed
-  out_counted : (removed t key).size ≡ listed_count e c (removed t key)
-  out_counted =
-      by_some (t.at key) (removed t key).size (listed_count e c (removed t key)) refl (spread_count e c t.at i j key p None) (proper_bit (t.at key) (stored key))
+  pub out_stored : (t' : Table ℤ) → t' ≡ removed t key → Stored e c t'
+  out_stored t' h = subst (Stored e c) (sym h) (record {
+    each = λ k. rw (gets_removed t key) (proper_put (value_of t) key None tt s.each k);
+    counted = by_some (value_of t key) (size (removed t key)) (listed_count e c (removed t key)) (len-remove nat_cmp_total t.rows key) count_out (proper_bit (value_of t key) (s.each key));
+    room = let r = s.room in let l = len-remove nat_cmp_total t.rows key in fewer (value_of t key) (size (removed t key)) l r;
+  })
     where
-      by_some : (o : Option ℤ) (s n : ℕ) → s ≡ cond (is_some o) (t.size - 1) t.size → n + bit (amount o) ≡ listed_count e c t + 0 → bit (amount o) ≡ cond (is_some o) 1 0 → s ≡ n
-      by_some None s n x y z = omega arith
-      by_some (Some v) s n x y z = omega arith
+      count_out : listed_count e c (removed t key) + bit (amount (value_of t key)) ≡ listed_count e c t + 0
+      count_out = ap (λ f. nonzeros (spread e c f) e c + bit (amount (value_of t key))) (gets_removed t key) ∙ spread_count e c (value_of t) i j key p None
 
-  pub out_keeps : (t' : Table ℤ) → t' ≡ removed t key → Proper t' × (t'.size ≡ listed_count e c t')
-  out_keeps t' s = keeps e c (removed t key) t' s (proper_put t.at key None tt stored) out_counted
+      by_some : (o : Option ℤ) (m n : ℕ) → m ≡ cond (is_some o) (size t - 1) (size t) → n + bit (amount o) ≡ listed_count e c t + 0 → bit (amount o) ≡ cond (is_some o) 1 0 → m ≡ n
+      by_some None m n x y z = let k = s.counted in omega arith
+      by_some (Some v) m n x y z = let k = s.counted in omega arith
+
+      fewer : (o : Option ℤ) (m : ℕ) → m ≡ cond (is_some o) (size t - 1) (size t) → size t ≤ t.capacity → m ≤ t.capacity
+      fewer None m x y = omega arith
+      fewer (Some v) m x y = omega arith
 
   out_listed : listed e c (removed t key) ≡ with_pair book i j (pos 0)
   unfolding listed
-  out_listed = λ n. record { entities = e; contracts = c; capacity = t.capacity; at = λ k o. spread_put e c t.at i j key p None k o n }
+  out_listed = λ n. record { entities = e; contracts = c; capacity = t.capacity; at = λ k o. (ap (λ f. spread e c f k o) (gets_removed t key) ∙ spread_put e c (value_of t) i j key p None k o) n }
 
   -- the row is put
-  in_counted : (q : ℤ) → is_zero q ≡ false → (grown t key q).size ≡ listed_count e c (grown t key q)
-  in_counted q nz =
-      by_some (t.at key) (grown t key q).size (listed_count e c (grown t key q)) refl (spread_count e c t.at i j key p (Some q)) (proper_bit (t.at key) (stored key)) (cond-false (is_zero q) 0 1 nz)
+  in_stored : (q : ℤ) → small q ≡ true → is_zero q ≡ false → taken t key ≡ true → Stored e c (grown t key q)
+  in_stored q sm nz u = record {
+    each = λ k. rw (gets_grown t key q) (proper_put (value_of t) key (Some q) (proper_some q sm nz) s.each k);
+    counted = by_some (value_of t key) (size (grown t key q)) (listed_count e c (grown t key q)) (len-insert nat_cmp_total t.rows key q) count_in (proper_bit (value_of t key) (s.each key)) (cond-false (is_zero q) 0 1 nz);
+    room = more (value_of t key) (size (grown t key q)) (len-insert nat_cmp_total t.rows key q) s.room u;
+  }
     where
-      by_some : (o : Option ℤ) (s n : ℕ) → s ≡ cond (is_some o) t.size (t.size + 1) → n + bit (amount o) ≡ listed_count e c t + bit q → bit (amount o) ≡ cond (is_some o) 1 0 → bit q ≡ 1 → s ≡ n
-      by_some None s n x y z w = omega arith
-      by_some (Some v) s n x y z w = omega arith
+      count_in : listed_count e c (grown t key q) + bit (amount (value_of t key)) ≡ listed_count e c t + bit q
+      count_in = ap (λ f. nonzeros (spread e c f) e c + bit (amount (value_of t key))) (gets_grown t key q) ∙ spread_count e c (value_of t) i j key p (Some q)
+
+      by_some : (o : Option ℤ) (m n : ℕ) → m ≡ cond (is_some o) (size t) (size t + 1) → n + bit (amount o) ≡ listed_count e c t + bit q → bit (amount o) ≡ cond (is_some o) 1 0 → bit q ≡ 1 → m ≡ n
+      by_some None m n x y z w = let k = s.counted in omega arith
+      by_some (Some v) m n x y z w = let k = s.counted in omega arith
+
+      more : (o : Option ℤ) (m : ℕ) → m ≡ cond (is_some o) (size t) (size t + 1) → size t ≤ t.capacity → (is_some o || ltb (size t) t.capacity) ≡ true → m ≤ t.capacity
+      more None m x y u = let l = ltb-true (size t) t.capacity u in omega arith
+      more (Some v) m x y u = omega arith
 
   in_listed : (q : ℤ) → listed e c (grown t key q) ≡ with_pair book i j q
   unfolding listed
-  in_listed q = λ n. record { entities = e; contracts = c; capacity = t.capacity; at = λ k o. spread_put e c t.at i j key p (Some q) k o n }
+  in_listed q = λ n. record { entities = e; contracts = c; capacity = t.capacity; at = λ k o. (ap (λ f. spread e c f k o) (gets_grown t key q) ∙ spread_put e c (value_of t) i j key p (Some q) k o) n }
 
   -- the sum as it is computed of the old quantity a and the change z
-  module _ (a z : ℤ) (fa : SFits w64 a) (fz : SFits w64 z) (old : a ≡ amount (t.at key)) where
+  module _ (a z : ℤ) (fa : SFits w64 a) (fz : SFits w64 z) (old : a ≡ amount (value_of t key)) where
     sum_of_is : (x : Result ℤ Refusal) → x ≡ sum_of (to_z w64 (of_z w64 a)) (to_z w64 (of_z w64 z)) → x ≡ sum_of (book.at i j) z
     sum_of_is x h = heard a z fa fz x h ∙ ap (λ y. sum_of y z) (old ∙ old_is)
 
@@ -232,13 +248,13 @@ module _ (e c : ℕ) (t : Table ℤ) (stored : Proper t) (counted : t.size ≡ l
         nonzero = ne_eqb (nat_abs q) 0 (λ n. some (ap (of_z w64) (nat_abs_zero q n)))
 
         -- whether the register has room is whether the book has
-        blocked_is : blocked book i j z ≡ not (open_for t key)
+        blocked_is : blocked book i j z ≡ not (taken t key)
         unfolding blocked listed
         blocked_is =
             ap₂ (λ x n. (is_zero x && not (is_zero z)) && leb t.capacity n) (sym old_is) count_is
-            ∙ by_some (t.at key) (stored key) (rw (sym old_is) at facts.1)
+            ∙ by_some (value_of t key) (s.each key) (rw (sym old_is) at facts.1)
           where
-            by_some : (o : Option ℤ) → T (proper o) → q ≡ amount o +ℤ z → ((is_zero (amount o) && not (is_zero z)) && leb t.capacity t.size) ≡ not (is_some o || ltb t.size t.capacity)
+            by_some : (o : Option ℤ) → T (proper o) → q ≡ amount o +ℤ z → ((is_zero (amount o) && not (is_zero z)) && leb t.capacity (size t)) ≡ not (is_some o || ltb (size t) t.capacity)
             by_some None h s =
                 let x : pos 0 +ℤ z ≡ z = omega (arith, ints) in
                 let y : is_zero z ≡ false = ap is_zero (sym (s ∙ x)) ∙ nonzero in
@@ -250,12 +266,12 @@ module _ (e c : ℕ) (t : Table ℤ) (stored : Proper t) (counted : t.size ≡ l
           after : t' ≡ putted t key q
           after = put_is ∙ ap (putted t key) kept
 
-          pub put_keeps : Proper t' × (t'.size ≡ listed_count e c t')
-          put_keeps =
+          pub put_stored : Stored e c t'
+          put_stored =
               ⊎_elim
-              (λ u. keeps e c (grown t key q) t' (after ∙ putted_ok t key q u) (proper_put t.at key (Some q) (proper_some q is_small nonzero) stored) (in_counted q nonzero))
-              (λ u. keeps e c t t' (after ∙ putted_err t key q u) stored counted)
-              (cases_Bool (open_for t key))
+              (λ u. subst (Stored e c) (sym (after ∙ putted_ok t key q u)) (in_stored q is_small nonzero u))
+              (λ u. subst (Stored e c) (sym (after ∙ putted_err t key q u)) s)
+              (cases_Bool (taken t key))
 
           -- it is accepted
           module _ (o : Option ℤ) (accepted : Ok o ≡ put_reply t key) where
@@ -286,11 +302,18 @@ module _ (e c : ℕ) (t : Table ℤ) (stored : Proper t) (counted : t.size ≡ l
 spread_empty : (e c i j : ℕ) → spread e c (λ _. None) i j ≡ pos 0
 spread_empty e c i j = cond_both (ltb i e && ltb j c) (pos 0) (pos 0) (λ z. z ≡ pos 0) (λ _. refl) (λ _. refl)
 
-pub new_keeps : (e c n : ℕ) (t : Table ℤ) → t ≡ emptied n → Proper t × (t.size ≡ listed_count e c t)
-new_keeps e c n t h = keeps e c (emptied n) t h (λ _. tt) (sym (nonzeros_none (spread e c (λ _. None)) e c (spread_empty e c)))
+gets_none : (n : ℕ) → value_of {V = ℤ} (emptied n) ≡ (λ _. None)
+gets_none n = fun_ext (λ k. get-empty nat_cmp k)
+
+pub new_stored : (e c n : ℕ) (t : Table ℤ) → t ≡ emptied n → Stored e c t
+new_stored e c n t h = subst (Stored e c) (sym h) (record {
+  each = λ k. rw (get-empty nat_cmp k) tt;
+  counted = len-empty nat_cmp ℤ ∙ sym (nonzeros_none (spread e c (value_of (emptied n))) e c (λ i j. ap (λ f. spread e c f i j) (gets_none n) ∙ spread_empty e c i j));
+  room = rw (len-empty nat_cmp ℤ) (omega arith);
+})
 
 pub new_state : (e c n m : ℕ) (t : Table ℤ) (e' : ℕ) → e' ≡ cond (eqb n 0) 0 e → t ≡ emptied m → m ≡ min n most_pairs → listed e' c t ≡ new_list n e c
 unfolding listed
 new_state e c n m t e' h k l =
     ap₂ (λ d u. listed d c u) h (k ∙ ap emptied l)
-    ∙ (λ s. record { entities = cond (eqb n 0) 0 e; contracts = c; capacity = min n most_pairs; at = λ i j. spread_empty (cond (eqb n 0) 0 e) c i j s })
+    ∙ (λ s. record { entities = cond (eqb n 0) 0 e; contracts = c; capacity = min n most_pairs; at = λ i j. (ap (λ f. spread (cond (eqb n 0) 0 e) c f i j) (gets_none (min n most_pairs)) ∙ spread_empty (cond (eqb n 0) 0 e) c i j) s })

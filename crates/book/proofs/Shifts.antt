@@ -1,4 +1,4 @@
--- What a rotation of a part leaves, a row put in or taken out, and what halving an ordered list tells.
+-- What a rotation of a part leaves: a row put in or taken out.
 use Rattle.std.proofs.Common.{◌≡◌, ℕ, suc, ◌+◌, ◌-◌, ◌<◌, ◌≤◌, ◌≢◌, List, [], ◌∷◌, ◌++◌, length, get_or, take, drop, set, sym, refl, ap, ◌∙◌, ap₂, ⊎_elim, add-one, arith}
 use borrow.Rule.Slice.PartMut.{put_mid}
 use Rattle.std.specs.List.Sorted.{IsStrictlyIncreasing}
@@ -7,18 +7,6 @@ use Rattle.std.proofs.lemmas.Map.Keys.{sorted_from_strictly_increasing, below_fr
 use Rattle.std.proofs.lemmas.Slice.{between_is, take-put_mid}
 use Rattle.std.proofs.lemmas.List.{take_more_set, drop-append-le, length-take-le, length-drop, length_push, length-append, length-set, drop_at, take_at, take-take, take-set-le, append_assoc, drop-drop, get_or-map, length-map}
 use Rattle.std.proofs.lemmas.Bool.{cases_eq}
-use Rattle.book.specs.declared.row.Row.{Row}
-use Rattle.book.specs.Tables.{keys}
-
--- what is put over a part of the same length leaves the length
-put_length : {X : Type 0} (xs ys : List X) (at n : ℕ) → at + n ≤ length xs → length ys ≡ n → length (put_mid at n xs ys) ≡ length xs
-put_length xs ys at n h e =
-    let a = length-append (take at xs) (ys ++ drop n (drop at xs)) in
-    let b = length-append ys (drop n (drop at xs)) in
-    let c = length-drop n (drop at xs) in
-    let d = length-drop at xs in
-    let f = length-take-le at xs (omega arith) in
-    omega arith
 
 module _ {X : Type 0} (xs : List X) (len at : ℕ) where
   -- a row is written behind the others, and the part from `at` on is rotated up by one
@@ -57,11 +45,6 @@ module _ {X : Type 0} (xs : List X) (len at : ℕ) where
           take-put_mid at (len + 1 - at) (set xs len r) ys (len + 1) (omega arith) (omega arith)
           ∙ ap₂ ◌++◌ (take-set-le at xs len r le ∙ sym (take-take at len xs le)) ys_are
 
-      pub in_length : length (put_mid at (len + 1 - at) (set xs len r) ys) ≡ length xs
-      in_length =
-          let s = length-set xs len r in
-          put_length (set xs len r) ys at (len + 1 - at) (omega arith) ys_length ∙ s
-
   -- the part from `at` on is rotated down by one
   module _ (ys : List X) (fits : len ≤ length xs) (lt : at < len) where
     abbrev piece : List X
@@ -92,30 +75,3 @@ module _ {X : Type 0} (xs : List X) (len at : ℕ) where
           ∙ (ap (take (len - 1)) (take-put_mid at (len - at) xs ys len (omega arith) (omega arith) ∙ (ap (λ l. take at xs ++ l) h ∙ sym (append_assoc (take at xs) _ _)))
           ∙ (take_at (take at xs ++ drop 1 piece) (take 1 piece) (len - 1) (let u = length-append (take at xs) (drop 1 piece) in omega arith)
           ∙ ap₂ ◌++◌ (sym (take-take at len xs (omega arith))) kept))
-
-      pub out_length : length (put_mid at (len - at) xs ys) ≡ length xs
-      out_length = put_length xs ys at (len - at) (omega arith) ys_short
-
--- ---- order
-pub climbs_far : (xs : List ℕ) → IsStrictlyIncreasing xs → (i j : ℕ) → i < j → j < length xs → get_or xs i 0 < get_or xs j 0
-climbs_far xs h i j l m = below_from_sorted xs i j 0 (sorted_from_strictly_increasing xs h) l m
-
-module _ {V : Type 0} (rows : List (Row V)) (key mid : ℕ) (d : Row V) (up : IsStrictlyIncreasing (keys rows)) (m : mid < length rows) where
-  key_at : get_or (keys rows) mid 0 ≡ (get_or rows mid d).key
-  key_at = get_or-map (λ r. r.key) rows mid d 0 m
-
-  pub lower : (get_or rows mid d).key < key → (k : ℕ) → k < mid + 1 → get_or (keys rows) k 0 < key
-  lower h k l =
-      let e = key_at in
-      ⊎_elim
-      (λ (s : k ≡ mid). rw s (omega arith))
-      (λ (s : k ≢ mid). let f = climbs_far (keys rows) up k mid (omega arith) (simp length-map m) in omega arith)
-      (cases_eq k mid)
-
-  pub upper : key ≤ (get_or rows mid d).key → (k : ℕ) → mid ≤ k → k < length rows → key ≤ get_or (keys rows) k 0
-  upper h k l n =
-      let e = key_at in
-      ⊎_elim
-      (λ (s : k ≡ mid). rw s (omega arith))
-      (λ (s : k ≢ mid). let f = climbs_far (keys rows) up mid k (omega arith) (simp length-map n) in omega arith)
-      (cases_eq k mid)

@@ -1,28 +1,39 @@
 -- The table that the places of a register hold.
-use Rattle.std.specs.Prelude.{◌≡◌, ◌≤◌, List, length, take}
-use Rattle.std.specs.List.Sorted.{IsStrictlyIncreasing}
-use Rattle.book.specs.declared.register.Places.{Places}
+use Rattle.std.specs.Prelude.{◌≡◌, ℕ, ◌<◌, ◌≤◌, T, List, map, length, take, slice_index_or}
+use Rattle.std.specs.Ordering.{nat_cmp}
+use Rattle.std.specs.FinMap.{from_sorted, is_sorted}
+use Rattle.book.specs.declared.register.Register.TheInside.{Inside}
 use Rattle.book.specs.declared.row.Row.{Row}
-use Rattle.book.specs.Tables.{Table, tabled, keys}
+use Rattle.book.specs.Tables.{Table}
+
+-- each row as a key with its value
+abbrev pub pairs : {V : Type 0} → List (Row V) → List (ℕ × V)
+pairs rows = map (λ r. (r.key, r.value)) rows
 
 -- the rows in use
-abbrev pub used : {V : Type 0} → Places V → List (Row V)
-used p = take p.len p.rows.now
+abbrev pub used : {V : Type 0} → Inside V → List (Row V)
+used a = take a.len a.rows.now
 
 -- what the places mean
-abbrev pub table : {V : Type 0} → Places V → Table V
-table p = tabled (length p.rows.now) (used p)
+abbrev pub table : {V : Type 0} → Inside V → Table V
+table a = record { capacity = length a.rows.now; rows = from_sorted (pairs (used a)) }
 
--- no more rows are in use than there are places
-abbrev pub Room : {V : Type 0} → Places V → Type 0
-Room p = p.len ≤ length p.rows.now
+-- the rows are in ascending order of key
+abbrev pub Ascending : {V : Type 0} → List (Row V) → Type 0
+Ascending rows = T (is_sorted nat_cmp (pairs rows))
 
--- the rows in use are in ascending order of key
-abbrev pub Ordered : {V : Type 0} → Places V → Type 0
-Ordered p = IsStrictlyIncreasing (keys (used p))
+-- no more rows are in use than there are places, and those are in ascending order
+pub record Kept {V : Type 0} (a : Inside V) : Type 0 where
+  pub room : a.len ≤ length a.rows.now
+  pub ascending : Ascending (used a)
 
--- the same places, with other rows in use
-pub record Edited {V : Type 0} (before after : Places V) (held : List (Row V)) : Type 0 where
-  pub room : Room after
-  pub capacity : length after.rows.now ≡ length before.rows.now
-  pub rows : used after ≡ held
+-- a key stands at a place of some rows
+pub record Found {V : Type 0} (rows : List (Row V)) (key at : ℕ) : Type 0 where
+  pub within : at < length rows
+  pub is : (d : Row V) → (slice_index_or rows at d).key ≡ key
+
+-- a key is missing, and would stand at a place
+pub record Gap {V : Type 0} (rows : List (Row V)) (key at : ℕ) : Type 0 where
+  pub within : at ≤ length rows
+  pub below : (k : ℕ) (d : Row V) → k < at → (slice_index_or rows k d).key < key
+  pub above : (k : ℕ) (d : Row V) → at ≤ k → k < length rows → key < (slice_index_or rows k d).key

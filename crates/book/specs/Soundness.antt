@@ -4,11 +4,9 @@ use Rattle.std.proofs.Common.{subst, suc-mul, arith, leb→le, length-take}
 use Rattle.std.proofs.lemmas.Nat.{mul-add-lt}
 use Rattle.std.proofs.lemmas.Bool.{cond-false, cond_both, and_parts, ltb-true}
 use Rattle.terms.specs.Bounds.{quantity_bound}
-use Rattle.book.specs.declared.register.Places.{Places}
-use Rattle.book.specs.Tables.{Table}
-use Rattle.book.specs.Places.{table}
+use Rattle.book.specs.Tables.{Table, value_of}
 use Rattle.book.specs.Holding.{Sound, count, gridded, is_zero, small, nonzero, nonzeros}
-use Rattle.book.specs.Listed.{amount, proper, listed, listed_count}
+use Rattle.book.specs.Listed.{amount, proper, listed, Stored}
 
 -- one for a pair that is not zero
 abbrev pub bit : ℤ → ℕ
@@ -45,15 +43,15 @@ grid_sound e c cells h = record {
   few = nonzeros_le (gridded e c cells).at e c;
 }
 
-pub list_sound : (e c : ℕ) (t : Table ℤ) → ((k : ℕ) → T (proper (t.at k))) → t.size ≡ listed_count e c t → t.size ≤ t.capacity → Sound (listed e c t)
+pub list_sound : (e c : ℕ) (t : Table ℤ) → Stored e c t → Sound (listed e c t)
 unfolding listed count
-list_sound e c t h n r = record {
+list_sound e c t s = record {
   bounded = λ i j.
-      cond_both (nat_lt i e && nat_lt j c) (amount (t.at (i * c + j))) (pos 0) (λ z. unsigned_abs z ≤ quantity_bound)
-      (λ _. bound (t.at (i * c + j)) (h (i * c + j)))
+      cond_both (nat_lt i e && nat_lt j c) (amount (value_of t (i * c + j))) (pos 0) (λ z. unsigned_abs z ≤ quantity_bound)
+      (λ _. bound (value_of t (i * c + j)) (s.each (i * c + j)))
       (λ _. omega arith);
   outside = λ i j o. cond-false (nat_lt i e && nat_lt j c) _ _ o;
-  few = subst (λ m. m ≤ t.capacity) n r;
+  few = subst (λ m. m ≤ t.capacity) s.counted s.room;
 }
   where
     left : (a b : Bool) → T (a && b) → T a
@@ -63,7 +61,3 @@ list_sound e c t h n r = record {
     bound : (o : Option ℤ) → T (proper o) → unsigned_abs (amount o) ≤ quantity_bound
     bound None h = omega arith
     bound (Some q) h = leb→le (unsigned_abs q) quantity_bound (left (small q) (not (is_zero q)) h)
-
--- no more keys have a value than may have one
-pub size_le : {V : Type 0} (p : Places V) → (table p).size ≤ (table p).capacity
-size_le p = omega (arith, length-take p.len p.rows.now)

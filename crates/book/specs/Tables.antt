@@ -1,68 +1,46 @@
 -- What a register means: a table, which has a value or none for each key.
-use Rattle.std.specs.Prelude.{◌≡◌, ℕ, ◌+◌, ◌-◌, ◌<◌, ◌≤◌, cond, ◌||◌, List, map, length, is_some, Some, None, Ok, Err, Option, Result, nat_eq, nat_lt, slice_index, slice_index_or}
-use Rattle.std.specs.Map.{lookup, update}
+use Rattle.std.specs.Prelude.{ℕ, Bool, cond, ◌||◌, Ok, Err, Option, Result, nat_lt, refl}
+use Rattle.std.specs.Ordering.{nat_cmp}
+use Rattle.std.specs.FinMap.{FinMap, empty, get, contains_key, insert, remove, len, code}
+use Rattle.std.specs.Coded.{Coded, code_by, coded×, coded_ℕ}
 use Rattle.terms.specs.declared.refusal.Refusal.{Refusal}
 use Rattle.terms.specs.declared.refusal.Refusal.TheVariants.{Full}
-use Rattle.book.specs.declared.row.Row.{Row}
 
--- how many keys may have a value, how many have one, and the value of each key
+-- how many keys may have a value, and the keys that have one with their values
 pub record Table (V : Type 0) : Type 0 where
   pub capacity : ℕ
-  pub size : ℕ
-  pub at : ℕ → Option V
+  pub rows : FinMap nat_cmp V
 
--- the keys of some rows
-abbrev pub keys : {V : Type 0} → List (Row V) → List ℕ
-keys rows = map (λ r. r.key) rows
+-- a table as a pair
+abbrev pub table_code : {V : Type 0} → Coded V → Coded (Table V)
+table_code {V} v =
+    code_by (ℕ × FinMap nat_cmp V) (coded× coded_ℕ (code coded_ℕ v)) (λ t. (t.capacity, t.rows)) (λ p. record { capacity = p.0; rows = p.1 }) (λ _. refl)
 
--- the values of some rows
-abbrev pub values : {V : Type 0} → List (Row V) → List V
-values rows = map (λ r. r.value) rows
+-- how many keys have a value
+abbrev pub size : {V : Type 0} → Table V → ℕ
+size t = len t.rows
 
--- each row as a key with its value
-abbrev pub entries : {V : Type 0} → List (Row V) → List (ℕ × V)
-entries rows = map (λ r. (r.key, r.value)) rows
-
--- the table that some rows make
-abbrev pub tabled : {V : Type 0} → ℕ → List (Row V) → Table V
-tabled capacity rows = record { capacity = capacity; size = length rows; at = λ key. lookup (nat_eq key) (entries rows) }
+-- the value of a key, or none
+abbrev pub value_of : {V : Type 0} → Table V → ℕ → Option V
+value_of t key = get t.rows key
 
 -- no key has a value
 abbrev pub emptied : {V : Type 0} → ℕ → Table V
-emptied capacity = record { capacity = capacity; size = 0; at = λ _. None }
+emptied capacity = record { capacity = capacity; rows = empty }
+
+-- a put is taken: the key has a value already, or there is room for one more
+abbrev pub taken : {V : Type 0} → Table V → ℕ → Bool
+taken t key = contains_key t.rows key || nat_lt (size t) t.capacity
 
 -- what a put answers: the value that it replaces, or none; a new key in a full table is declined
 abbrev pub put_reply : {V : Type 0} → Table V → ℕ → Result (Option V) Refusal
-put_reply t key = cond (is_some (t.at key) || nat_lt t.size t.capacity) (Ok (t.at key)) (Err Full)
-
--- what is left once a put has answered
-abbrev pub put_into : {V : Type 0} → Table V → ℕ → V → Result (Option V) Refusal → Table V
-put_into t key value (Ok old) = record {
-  capacity = t.capacity;
-  size = cond (is_some old) t.size (t.size + 1);
-  at = update nat_eq t.at key (Some value);
-}
-put_into t key value (Err _) = t
+put_reply t key = cond (taken t key) (Ok (value_of t key)) (Err Full)
 
 -- what a put leaves
 abbrev pub putted : {V : Type 0} → Table V → ℕ → V → Table V
-putted t key value = put_into t key value (put_reply t key)
+putted t key value =
+    cond (taken t key) (record { capacity = t.capacity; rows = insert t.rows key value }) t
 
 -- what a removal leaves
 abbrev pub removed : {V : Type 0} → Table V → ℕ → Table V
-removed t key = record {
-  capacity = t.capacity;
-  size = cond (is_some (t.at key)) (t.size - 1) t.size;
-  at = update nat_eq t.at key None;
-}
-
--- a key stands at a place
-pub record Found {V : Type 0} (rows : List (Row V)) (key at : ℕ) : Type 0 where
-  pub within : at < length rows
-  pub is : slice_index_or (keys rows) at 0 ≡ key
-
--- a key is missing, and would stand at a place
-pub record Gap {V : Type 0} (rows : List (Row V)) (key at : ℕ) : Type 0 where
-  pub within : at ≤ length rows
-  pub below : (k : ℕ) → k < at → slice_index (keys rows) k < key
-  pub above : (k : ℕ) → at ≤ k → k < length rows → key < slice_index (keys rows) k
+removed t key = record { capacity = t.capacity; rows = remove t.rows key }

@@ -1,12 +1,12 @@
 // A book that stores the non-zero pairs only, in ascending order.
-ghost use Rattle.std.specs.Prelude.{◌≡◌, ℕ, T, length, if◌then◌else◌, nat_eq};
+ghost use Rattle.std.specs.Prelude.{◌≡◌, length, if◌then◌else◌, nat_eq};
 ghost use Rattle.book.specs.Holding.{place_of};
-ghost use Rattle.book.specs.Listed.{amount, proper, listed, listed_count, new_list};
-ghost use Rattle.book.specs.Places.{table, Room, Ordered};
-ghost use Rattle.book.specs.Soundness.{list_sound, size_le};
+ghost use Rattle.book.specs.Listed.{amount, listed, new_list, Stored};
+ghost use Rattle.book.specs.Soundness.{list_sound};
+ghost use Rattle.book.specs.Tables.{value_of};
 
 use crate::position::{Book, Holds, Shape, summed};
-use crate::register::Places;
+use crate::register::Register;
 use crate::row::Row;
 use terms::bounds::MOST_PAIRS;
 use terms::refusal::Refusal;
@@ -14,13 +14,10 @@ use terms::refusal::Refusal;
 // The key of a pair is the number of the place that it would have in a grid.
 #[derive(Drop)]
 pub struct List<'a> {
-    places: Places<'a, i64>,
+    register: Register<'a, i64>,
     entities: u32,
     contracts: u32,
-    ghost room: { Room places },
-    ghost ordered: { Ordered places },
-    ghost stored: { (k : ℕ) → T (proper ((table places).at k)) },
-    ghost counted: { (table places).size ≡ listed_count entities contracts (table places) },
+    ghost stored: { Stored entities contracts register },
 }
 
 // The number of entities, or 0 where there is no place.
@@ -33,13 +30,13 @@ fn housed(n: usize, entities: u32) -> u32
 impl<'a> List<'a> {
     // A list with every pair at zero, over no more places than there can be pairs, and with no entities where there is no place.
     pub fn new(places: &'a mut [Row<i64>], entities: u32, contracts: u32) -> List<'a>
-        ensures { listed result.entities result.contracts (table result.places) ≡ new_list (length places.old) entities contracts }
+        ensures { listed result.entities result.contracts result.register ≡ new_list (length places.old) entities contracts }
     {
         let entities = housed(places.len(), entities);
         let used = places.len().min(MOST_PAIRS);
-        let places = Places::new(&mut places[0..used]);
+        let register = Register::new(&mut places[..used]);
         List {
-            places,
+            register,
             entities,
             contracts,
         }
@@ -58,25 +55,22 @@ impl<'a> List<'a> {
 
     // The quantity under a key.
     fn quantity_at(&self, key: u64) -> i64
-        ensures { result ≡ amount ((table self.now.places).at key) }
+        ensures { result ≡ amount (value_of self.now.register key) }
     {
-        match self.places.find(key) {
-            Some(quantity) => quantity,
-            None => 0,
-        }
+        self.register.find(key).unwrap_or(0)
     }
 }
 
 impl<'a> Holds for List<'a> {
-    ghost held = { λ s. listed s.entities s.contracts (table s.places) };
+    ghost held = { λ s. listed s.entities s.contracts s.register };
 
-    ghost sound = { λ s. list_sound s.entities s.contracts (table s.places) s.stored s.counted (size_le s.places) };
+    ghost sound = { λ s. list_sound s.entities s.contracts s.register s.stored };
 
     fn quantity(&self, entity: usize, contract: usize) -> i64 {
-        match self.key(entity, contract) {
-            Some(key) => self.quantity_at(key),
-            None => 0,
-        }
+        let Some(key) = self.key(entity, contract) else {
+            return 0;
+        };
+        self.quantity_at(key)
     }
 }
 
@@ -85,20 +79,18 @@ impl<'a> Book for List<'a> {
         Shape {
             entities: self.entities as usize,
             contracts: self.contracts as usize,
-            capacity: self.places.capacity(),
+            capacity: self.register.capacity(),
         }
     }
 
     fn post(&mut self, entity: usize, contract: usize, change: i64) -> Result<i64, Refusal> {
-        let Some(key) = self.key(entity, contract) else {
-            return Err(Refusal::Pair);
-        };
+        let key = self.key(entity, contract).ok_or(Refusal::Pair)?;
         let sum = summed(self.quantity_at(key), change)?;
         if sum == 0 {
-            let _ = self.places.remove(key);
+            let _ = self.register.remove(key);
             return Ok(0);
         }
-        self.places.put(key, sum)?;
+        self.register.put(key, sum)?;
         Ok(sum)
     }
 }
