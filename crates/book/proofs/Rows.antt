@@ -114,12 +114,12 @@ module _ {V : Type 0} where
         grind (arith, nat_tests)
 
     -- its row is written over
-    set_put : (rows : List (Row V)) (at : ℕ) (v : V) → Ascending rows → Found rows key at → pairs (set rows at (record { key = key; value = v })) ≡ put nat_cmp key v (pairs rows)
-    set_put [] at v up f = absurd (let w = f.within in omega arith)
-    set_put (r ∷ rows) zero v up f = let e = f.is r in grind (arith, nat_tests)
-    set_put (r ∷ rows) (suc at) v up f =
+    set_put : (rows : List (Row V)) (at : ℕ) (row : Row V) → row.key ≡ key → Ascending rows → Found rows key at → pairs (set rows at row) ≡ put nat_cmp key row.value (pairs rows)
+    set_put [] at row k up f = absurd (let w = f.within in omega arith)
+    set_put (r ∷ rows) zero row k up f = let e = f.is r in grind (arith, nat_tests)
+    set_put (r ∷ rows) (suc at) row k up f =
         let b = beyond r rows at up f in
-        let i = set_put rows at v (up_later r rows at up f) (later r rows at up f) in
+        let i = set_put rows at row k (up_later r rows at up f) (later r rows at up f) in
         grind (arith, nat_tests)
 
     -- its row is taken out
@@ -178,8 +178,8 @@ module _ {V : Type 0} where
           is = same_entries_map _ _ (entries_mapped rows' u ∙ e ∙ sym (entries-insert nat_cmp_total _ key v ∙ ap (put nat_cmp key v) (entries_mapped rows up)));
         }
 
-    pub make_set : (v : V) → Found rows key at → Makes (set rows at (record { key = key; value = v })) (map.insert (mapped rows) key v)
-    make_set v f = putting v _ (set_put key rows at v up f)
+    pub make_set : (row : Row V) → row.key ≡ key → Found rows key at → Makes (set rows at row) (map.insert (mapped rows) key row.value)
+    make_set row k f = putting row.value _ (set_put key rows at row k up f)
 
     pub make_insert : (v : V) → Gap rows key at → Makes (insert rows at (record { key = key; value = v })) (map.insert (mapped rows) key v)
     make_insert v g = putting v _ (insert_put key rows at v g)

@@ -71,15 +71,17 @@ module _ {V : Type 0} (places : List (Row V)) (n key : ℕ) (fits : n ≤ length
     pub known_reply : (d : Row V) → Ok (Some (get_or places at d).value) ≡ put_reply before key
     known_reply d = sym (put_known before key _ d.value (known d)).0
 
-    pub put_over : (v : V) → Leaves (set places at (record { key = key; value = v })) n (putted before key v)
-    put_over v =
-        let row : Row V = record { key = key; value = v } in
-        let l = length-set places at row in
-        subst (Leaves _ n) (sym (put_known before key _ v (known row)).1)
-        (leaves _ n _ _ (omega arith) l (take-set-lt n places at row below) (make_set key (take n places) at up v f))
+    pub key_is : (d : Row V) → (get_or places at d).key ≡ key
+    key_is d = sym (ap (λ (r : Row V). r.key) (get_or-take n places at d below)) ∙ f.is d
 
-    pub take_out : (places' : List (Row V)) → length places' ≡ length places → take (n - 1) places' ≡ without (take n places) at → Leaves places' (n - 1) (removed before key)
-    take_out places' l e = leaves places' (n - 1) _ _ (omega arith) l e (make_remove key (take n places) at up f)
+    pub put_over : (row : Row V) → row.key ≡ key → Leaves (set places at row) n (putted before key row.value)
+    put_over row k =
+        let l = length-set places at row in
+        subst (Leaves _ n) (sym (put_known before key _ row.value (known row)).1)
+        (leaves _ n _ _ (omega arith) l (take-set-lt n places at _ below) (make_set key (take n places) at up row k f))
+
+    pub take_out : (places' : List (Row V)) (m : ℕ) → m ≡ n - 1 → length places' ≡ length places → take m places' ≡ without (take n places) at → Leaves places' m (removed before key)
+    take_out places' m k l e = leaves places' m _ _ (omega arith) l e (make_remove key (take n places) at up f)
 
   module _ (at : ℕ) (g : Gap (take n places) key at) where
     pub unknown : value_of before key ≡ None
@@ -96,7 +98,7 @@ module _ {V : Type 0} (places : List (Row V)) (n key : ℕ) (fits : n ≤ length
         pub new_reply : Ok None ≡ put_reply before key
         new_reply = sym (put_new before key v unknown (rw size_is l)).0
 
-        pub put_in : (places' : List (Row V)) → length places' ≡ length places → take (n + 1) places' ≡ insert (take n places) at (record { key = key; value = v }) → Leaves places' (n + 1) (putted before key v)
-        put_in places' k e =
-            subst (Leaves _ (n + 1)) (sym (put_new before key v unknown (rw size_is l)).1)
-            (leaves places' (n + 1) _ _ (omega arith) k e (make_insert key (take n places) at up v g))
+        pub put_in : (places' : List (Row V)) (m : ℕ) → m ≡ n + 1 → length places' ≡ length places → take m places' ≡ insert (take n places) at (record { key = key; value = v }) → Leaves places' m (putted before key v)
+        put_in places' m j k e =
+            subst (Leaves _ m) (sym (put_new before key v unknown (rw size_is l)).1)
+            (leaves places' m _ _ (omega arith) k e (make_insert key (take n places) at up v g))

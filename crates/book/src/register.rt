@@ -6,6 +6,7 @@ ghost use Rattle.book.specs.Tables.{size, value_of, emptied, put_reply, putted, 
 
 use crate::row::Row;
 use std::marker::Model;
+use std::mem;
 use terms::refusal::Refusal;
 
 // The places, of which the first `len` are in use.
@@ -39,24 +40,28 @@ fn locate<V>(rows: &[Row<V>], key: u64) -> Result<usize, usize>
 }
 
 // Puts a row in at a place of the first `len`, and moves the rows from there on up by one.
-fn insert_at<V: Copy>(rows: &mut [Row<V>], len: usize, at: usize, row: Row<V>)
-    requires free { len < length rows.old }
-    requires within { at ≤ len }
+fn insert_at<V: Copy>(rows: &mut [Row<V>], len: &mut usize, at: usize, row: Row<V>)
+    requires free { len.old < length rows.old }
+    requires within { at ≤ len.old }
+    ensures len { len.new ≡ len.old + 1 }
     ensures capacity { length rows.new ≡ length rows.old }
-    ensures rows { take (len + 1) rows.new ≡ insert (take len rows.old) at row }
+    ensures rows { take len.new rows.new ≡ insert (take len.old rows.old) at row }
 {
-    rows[len] = row;
-    rows[at..len + 1].rotate_right(1);
+    rows[*len] = row;
+    *len += 1;
+    rows[at..*len].rotate_right(1);
 }
 
 // Takes the row at a place of the first `len` out, and moves the rows after it down by one.
-fn remove_at<V: Copy>(rows: &mut [Row<V>], len: usize, at: usize)
-    requires room { len ≤ length rows.old }
-    requires within { at < len }
+fn remove_at<V: Copy>(rows: &mut [Row<V>], len: &mut usize, at: usize)
+    requires room { len.old ≤ length rows.old }
+    requires within { at < len.old }
+    ensures len { len.new ≡ len.old - 1 }
     ensures capacity { length rows.new ≡ length rows.old }
-    ensures rows { take (len - 1) rows.new ≡ without (take len rows.old) at }
+    ensures rows { take len.new rows.new ≡ without (take len.old rows.old) at }
 {
-    rows[at..len].rotate_left(1);
+    rows[at..*len].rotate_left(1);
+    *len -= 1;
 }
 
 impl<'a, V: Copy> Register<'a, V> {
@@ -95,18 +100,12 @@ impl<'a, V: Copy> Register<'a, V> {
         ensures answer { result ≡ put_reply self.old key }
         ensures state { self.new ≡ putted self.old key value }
     {
-        let len = self.len;
         let rows = &mut *self.rows;
-        match locate(&rows[..len], key) {
-            Ok(at) => {
-                let old = rows[at].value;
-                rows[at] = Row { key, value };
-                Ok(Some(old))
-            }
-            Err(_) if len == rows.len() => Err(Refusal::Full),
+        match locate(&rows[..self.len], key) {
+            Ok(at) => Ok(Some(mem::replace(&mut rows[at].value, value))),
+            Err(_) if self.len == rows.len() => Err(Refusal::Full),
             Err(at) => {
-                insert_at(rows, len, at, Row { key, value });
-                self.len = len + 1;
+                insert_at(rows, &mut self.len, at, Row { key, value });
                 Ok(None)
             }
         }
@@ -117,12 +116,10 @@ impl<'a, V: Copy> Register<'a, V> {
         ensures answer { result ≡ value_of self.old key }
         ensures state { self.new ≡ removed self.old key }
     {
-        let len = self.len;
         let rows = &mut *self.rows;
-        let at = locate(&rows[..len], key).ok()?;
+        let at = locate(&rows[..self.len], key).ok()?;
         let old = rows[at].value;
-        remove_at(rows, len, at);
-        self.len = len - 1;
+        remove_at(rows, &mut self.len, at);
         Some(old)
     }
 }

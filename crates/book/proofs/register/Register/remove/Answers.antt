@@ -18,7 +18,8 @@ invariant_of-self-2 g c =
     let a = c.self.inside in
     let i = c.self.invariant in
     let f = found _ _ _ c.in_ok-at.at c.locate.ensures c.in_ok-at.ensures.value in
-    let w = take_out a.rows.now a.len c.args.key i.room i.ascending c.in_ok-at.at f _ c.remove_at.ensures.capacity c.remove_at.ensures.rows in
+    let e = c.remove_at.ensures in
+    let w = take_out a.rows.now a.len c.args.key i.room i.ascending c.in_ok-at.at f _ _ e.len e.capacity e.rows in
     record { room = w.room; ascending = w.ascending }
 
 pub returns : goal.returns
@@ -26,7 +27,8 @@ returns g c =
     let a = c.self.inside in
     let i = c.self.invariant in
     let f = found _ _ _ c.in_ok-at.at c.locate.ensures c.in_ok-at.ensures.value in
+    let e = c.remove_at.ensures in
     rw (← c.self.view_is) (record {
       answer = sym (known a.rows.now a.len c.args.key i.room i.ascending c.in_ok-at.at f c.index-rows-at.result);
-      state = let w = take_out a.rows.now a.len c.args.key i.room i.ascending c.in_ok-at.at f _ c.remove_at.ensures.capacity c.remove_at.ensures.rows in w.is;
+      state = let w = take_out a.rows.now a.len c.args.key i.room i.ascending c.in_ok-at.at f _ _ e.len e.capacity e.rows in w.is;
     })
