@@ -1,5 +1,5 @@
 -- A grid's meaning, by the list of its cells.
-use Rattle.std.proofs.Common.{◌≡◌, ℕ, zero, suc, ◌+◌, ◌*◌, ◌/◌, ◌%◌, ◌<◌, ◌≤◌, true, false, cond, not, ◌&&◌, eqb, ltb, leb, ◌≢◌, List, length, get_or, set, replicate, ℤ, pos, ◌+ℤ◌, nat_abs, Some, None, Ok, Err, Result, sym, refl, ap, ◌∙◌, subst, ap₂, ⊎_elim, zero-mul, arith, w64, SFits, to_z, of_z}
+use Rattle.std.proofs.Common.{◌≡◌, ℕ, zero, suc, ◌+◌, ◌*◌, ◌/◌, ◌%◌, ◌<◌, ◌≤◌, true, false, cond, not, ◌&&◌, eqb, ltb, leb, ◌≢◌, List, length, get_or, set, replicate, ℤ, pos, ◌+ℤ◌, nat_abs, Some, None, Option, MatchOption, Ok, Err, Result, sym, refl, ap, ◌∙◌, subst, ap₂, ⊎_elim, zero-mul, arith, w64, SFits, to_z, of_z}
 use Rattle.std.proofs.lemmas.Nat.{div-mul-add, mod-mul-add}
 use Rattle.std.proofs.lemmas.List.{get_or-set_same, get_or-set_other, length-replicate}
 use Rattle.std.proofs.lemmas.Int.{ints}
@@ -167,6 +167,11 @@ module _ (e c : ℕ) (cells : List ℤ) (fits : e * c ≤ length cells) (bounded
           rw (s, get_or-set_same cells at kept (pos 0) (omega arith), kept_is) q_small)
           (λ (s : k ≢ at). rw (get_or-set_other cells at k kept (pos 0) s) (bounded k l))
           (cases_eq k at)
+
+-- the quantity of a pair, by what is answered at its cell
+pub quantity_is : (e c : ℕ) (cells : List ℤ) (fits : e * c ≤ length cells) (bounded : (k : ℕ) → k < e * c → nat_abs (get_or cells k (pos 0)) ≤ quantity_bound) (i j : ℕ) (o : Option ℕ) (q : ℤ) (Q : ℕ → Type 0) → o ≡ place_of e c i j → ((at : ℕ) → Q at → q ≡ to_z w64 (of_z w64 (get_or cells at (pos 0)))) → MatchOption o (q ≡ pos 0) Q → q ≡ (gridded e c cells).at i j
+quantity_is e c cells fits bounded i j None q Q p f h = h ∙ at_none e c cells i j p
+quantity_is e c cells fits bounded i j (Some at) q Q p f h = f at h ∙ at_some e c cells fits bounded i j at p
 
 -- ---- a new grid
 nought : (n k : ℕ) → get_or (replicate n (pos 0)) k (pos 0) ≡ pos 0

@@ -21,10 +21,10 @@ pub struct Grid<'a> {
 fn fitting(n: usize, entities: usize, contracts: usize) -> usize
     ensures { result ≡ (if nat_le (entities * contracts) n then entities else 0) }
 {
-    match entities.checked_mul(contracts) {
-        Some(product) => if product <= n { entities } else { 0 },
-        None => 0,
-    }
+    let fits = entities
+        .checked_mul(contracts)
+        .is_some_and(|product| product <= n);
+    if fits { entities } else { 0 }
 }
 
 impl<'a> Grid<'a> {
@@ -60,10 +60,7 @@ impl<'a> Holds for Grid<'a> {
     ghost sound = { λ s. grid_sound s.entities s.contracts s.cells.now s.bounded };
 
     fn quantity(&self, entity: usize, contract: usize) -> i64 {
-        match self.place(entity, contract) {
-            Some(at) => self.cells[at],
-            None => 0,
-        }
+        self.place(entity, contract).map_or(0, |at| self.cells[at])
     }
 }
 
@@ -77,9 +74,7 @@ impl<'a> Book for Grid<'a> {
     }
 
     fn post(&mut self, entity: usize, contract: usize, change: i64) -> Result<i64, Refusal> {
-        let Some(at) = self.place(entity, contract) else {
-            return Err(Refusal::Pair);
-        };
+        let at = self.place(entity, contract).ok_or(Refusal::Pair)?;
         let sum = summed(self.cells[at], change)?;
         self.cells[at] = sum;
         Ok(sum)

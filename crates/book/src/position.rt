@@ -14,6 +14,7 @@ pub struct Shape {
 }
 
 // What has a quantity for each pair: `held` is what it means.
+// A pair stays two numbers: each call makes it anew of two loop variables, so a struct would only be taken apart again.
 pub trait Holds {
     ghost held: { Self → Holding };
 
@@ -40,11 +41,8 @@ pub trait Book: Holds {
 pub(crate) fn summed(quantity: i64, change: i64) -> Result<i64, Refusal>
     ensures { result ≡ sum_of quantity change }
 {
-    let Some(sum) = quantity.checked_add(change) else {
-        return Err(Refusal::Size);
-    };
-    if sum.unsigned_abs() > QUANTITY_BOUND as u64 {
-        return Err(Refusal::Size);
-    }
-    Ok(sum)
+    quantity
+        .checked_add(change)
+        .filter(|sum| sum.unsigned_abs() <= QUANTITY_BOUND as u64)
+        .ok_or(Refusal::Size)
 }

@@ -1,12 +1,11 @@
-use Rattle.book.proofs.Grids.{at_some, at_none}
+use Rattle.std.proofs.Common.{◌∙◌, w64, SFits, rules}
+use Rattle.std.proofs.lemmas.Int.{to_z-of_z}
+use Rattle.book.proofs.Grids.{quantity_is}
 use Rattle.book.proofs.grid.GridHolds.quantity.Goals as goal
 
-pub returns-in-Some : goal.returns-in-Some
-returns-in-Some c =
+pub returns : goal.returns
+returns c =
     let g = c.args.self.now in
-    at_some g.entities g.contracts g.cells.now g.fits g.bounded _ _ _ c.in-Some.ensures.place
-
-pub returns-in-None : goal.returns-in-None
-returns-in-None c =
-    let g = c.args.self.now in
-    at_none g.entities g.contracts g.cells.now _ _ c.in-None.ensures.place
+    let f : SFits w64 c.map_or.result = search rules in
+    to_z-of_z w64 c.map_or.result f
+    ∙ quantity_is g.entities g.contracts g.cells.now g.fits g.bounded _ _ _ _ _ c.place.ensures.place (λ at h. search rules) c.map_or.ensures
