@@ -20,13 +20,17 @@ abbrev pub admitted : Kind → Option ℤ → Option ℤ
 admitted kind None = None
 admitted kind (Some d) = cond (in_range kind d) (Some d) None
 
--- the published source, by its minute, its price and its row of each contract
-abbrev pub published : ℕ → ℕ → (ℕ → Option ℤ) → Source
-published minute price rows = record {
-  delta = λ contract kind. admitted kind (rows contract);
+-- a source that looks a contract's row up, by what a row tells of a kind at a price, its minute, its price and its row of each contract
+abbrev pub quoted : {V : Type 0} → (ℕ → Kind → Option V → Option ℤ) → ℕ → ℕ → (ℕ → Option V) → Source
+quoted made minute price rows = record {
+  delta = λ contract kind. made price kind (rows contract);
   minute = minute;
   price = price;
 }
+
+-- the published source, by its minute, its price and its row of each contract
+abbrev pub published : ℕ → ℕ → (ℕ → Option ℤ) → Source
+published = quoted (λ _. admitted)
 
 -- a call's delta at settlement, as the price is above, at or below the strike
 abbrev pub call_at : ℕ → ℕ → ℤ
@@ -57,8 +61,4 @@ settled_at price Put strike = put_of (call_of price strike)
 
 -- the settlement source, by its minute, its price and the strike of each contract
 abbrev pub settled : ℕ → ℕ → (ℕ → Option ℕ) → Source
-settled minute price strikes = record {
-  delta = λ contract kind. settled_at price kind (strikes contract);
-  minute = minute;
-  price = price;
-}
+settled = quoted settled_at

@@ -2,9 +2,9 @@
 #![tactic(auto)]
 
 pub mod bounds;
-pub mod mixed;
 pub mod mixing;
 pub mod notional;
 pub mod published;
+pub mod quoted;
 pub mod settlement;
 pub mod source;

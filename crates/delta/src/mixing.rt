@@ -1,40 +1,35 @@
-// A mixed source answers what the one that it holds does.
+// A source of one of two makes answers what the one that it holds does.
 ghost use Rattle.std.specs.Prelude.{◌≡◌};
-ghost use Rattle.delta.specs.Mixing.{either, either_lawful};
+ghost use Rattle.either.specs.Either.{either};
+ghost use Rattle.delta.specs.Mixing.{either_lawful};
 
-use crate::mixed::Mixed;
 use crate::source::{Delta, PricedDelta};
+use either::{Either, for_both};
 use terms::kind::Kind;
 
-impl<F: Delta, S: Delta> Delta for Mixed<F, S> {
+// A source of one of two makes, so that a list may hold both.
+pub type Mixed<F, S> = Either<F, S>;
+
+impl<F: Delta, S: Delta> Delta for Either<F, S> {
     ghost answer = { either F.Delta.answer S.Delta.answer };
 
     ghost lawful = { either_lawful F.Delta.answer S.Delta.answer F.Delta.lawful S.Delta.lawful };
 
     fn delta(&self, contract: usize, kind: Kind) -> Option<i32> {
-        match self {
-            Mixed::First(source) => source.delta(contract, kind),
-            Mixed::Second(source) => source.delta(contract, kind),
-        }
+        for_both!(self, source => source.delta(contract, kind))
     }
 }
 
-impl<F: PricedDelta, S: PricedDelta> PricedDelta for Mixed<F, S> {
+impl<F: PricedDelta, S: PricedDelta> PricedDelta for Either<F, S> {
     ghost at = { either F.PricedDelta.at S.PricedDelta.at };
 
     ghost worth = { either F.PricedDelta.worth S.PricedDelta.worth };
 
     fn minute(&self) -> u64 {
-        match self {
-            Mixed::First(source) => source.minute(),
-            Mixed::Second(source) => source.minute(),
-        }
+        for_both!(self, source => source.minute())
     }
 
     fn price(&self) -> u64 {
-        match self {
-            Mixed::First(source) => source.price(),
-            Mixed::Second(source) => source.price(),
-        }
+        for_both!(self, source => source.price())
     }
 }

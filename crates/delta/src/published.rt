@@ -2,35 +2,13 @@
 ghost use Rattle.std.specs.Prelude.{◌≡◌, Some};
 ghost use Rattle.delta.specs.Lawfulness.{admitted_lawful};
 ghost use Rattle.delta.specs.Makes.{admitted};
-ghost use Rattle.delta.specs.Told.{published_by, row_of};
 
 use crate::bounds::DELTA_BOUND;
-use crate::source::{Delta, PricedDelta};
-use book::register::Register;
+use crate::quoted::{Quote, Quoted};
 use terms::kind::Kind;
 
-// The rows are kept by contract number.
-#[derive(Clone, Copy)]
-pub struct Published<'r, 'a> {
-    minute: u64,
-    price: u64,
-    rows: &'r Register<'a, i32>,
-}
-
-impl<'r, 'a> Published<'r, 'a> {
-    // The source of a minute, a price and rows.
-    pub fn new(minute: u64, price: u64, rows: &'r Register<'a, i32>) -> Published<'r, 'a>
-        ensures minute { result.minute ≡ minute }
-        ensures price { result.price ≡ price }
-        ensures rows { result.rows.now ≡ rows.now }
-    {
-        Published {
-            minute,
-            price,
-            rows,
-        }
-    }
-}
+// A row is the delta that was published of a contract.
+pub type Published<'r, 'a> = Quoted<'r, 'a, i32>;
 
 // A published delta, where it is in the range of its kind.
 fn admit(kind: Kind, delta: i32) -> Option<i32>
@@ -38,35 +16,20 @@ fn admit(kind: Kind, delta: i32) -> Option<i32>
 {
     let lawful = match kind {
         Kind::Future => delta == DELTA_BOUND,
-        Kind::Call => 0 <= delta && delta <= DELTA_BOUND,
-        Kind::Put => -DELTA_BOUND <= delta && delta <= 0,
+        Kind::Call => (0..=DELTA_BOUND).contains(&delta),
+        Kind::Put => (-DELTA_BOUND..=0).contains(&delta),
     };
-    if lawful { Some(delta) } else { None }
+    lawful.then_some(delta)
 }
 
-impl<'r, 'a> Delta for Published<'r, 'a> {
-    ghost answer = { λ s. (published_by s).delta };
+impl Quote for i32 {
+    ghost made = { λ _. admitted };
 
-    ghost lawful = { λ s contract kind. admitted_lawful kind (row_of s contract) };
+    ghost lawful = { λ _. admitted_lawful };
 
-    fn delta(&self, contract: usize, kind: Kind) -> Option<i32> {
-        match self.rows.find(contract as u64) {
-            Some(delta) => admit(kind, delta),
-            None => None,
-        }
-    }
-}
-
-impl<'r, 'a> PricedDelta for Published<'r, 'a> {
-    ghost at = { λ s. (published_by s).minute };
-
-    ghost worth = { λ s. (published_by s).price };
-
-    fn minute(&self) -> u64 {
-        self.minute
-    }
-
-    fn price(&self) -> u64 {
-        self.price
+    fn delta(_price: u64, kind: Kind, row: Option<i32>) -> Option<i32>
+        ensures { result ≡ admitted kind row }
+    {
+        row.and_then(|delta| admit(kind, delta))
     }
 }

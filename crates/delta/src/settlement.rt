@@ -2,47 +2,24 @@
 ghost use Rattle.std.specs.Prelude.{◌≡◌};
 ghost use Rattle.delta.specs.Lawfulness.{settled_lawful};
 ghost use Rattle.delta.specs.Makes.{call_at, call_of, settled_at};
-ghost use Rattle.delta.specs.Told.{settled_by, strike_of};
 
 use crate::bounds::{DELTA_BOUND, HALF_DELTA};
-use crate::source::{Delta, PricedDelta};
-use book::register::Register;
+use crate::quoted::{Quote, Quoted};
+use std::cmp::Ordering;
 use terms::bounds::PRICE_BOUND;
 use terms::kind::Kind;
 
-// The strikes are kept by contract number.
-#[derive(Clone, Copy)]
-pub struct Settlement<'r, 'a> {
-    minute: u64,
-    price: u64,
-    strikes: &'r Register<'a, u64>,
-}
-
-impl<'r, 'a> Settlement<'r, 'a> {
-    // The source of a minute, a price and strikes.
-    pub fn new(minute: u64, price: u64, strikes: &'r Register<'a, u64>) -> Settlement<'r, 'a>
-        ensures minute { result.minute ≡ minute }
-        ensures price { result.price ≡ price }
-        ensures strikes { result.strikes.now ≡ strikes.now }
-    {
-        Settlement {
-            minute,
-            price,
-            strikes,
-        }
-    }
-}
+// A row is the strike of a contract.
+pub type Settlement<'r, 'a> = Quoted<'r, 'a, u64>;
 
 // A call's delta, as the price is above, at or below the strike.
 fn call_at(price: u64, strike: u64) -> i32
     ensures { result ≡ call_at price strike }
 {
-    if strike < price {
-        DELTA_BOUND
-    } else if strike == price {
-        HALF_DELTA
-    } else {
-        0
+    match price.cmp(&strike) {
+        Ordering::Greater => DELTA_BOUND,
+        Ordering::Equal => HALF_DELTA,
+        Ordering::Less => 0,
     }
 }
 
@@ -50,44 +27,23 @@ fn call_at(price: u64, strike: u64) -> i32
 fn call_of(price: u64, strike: Option<u64>) -> Option<i32>
     ensures { result ≡ call_of price strike }
 {
-    match strike {
-        Some(strike) if 1 <= strike && strike <= PRICE_BOUND => Some(call_at(price, strike)),
-        _ => None,
-    }
+    strike
+        .filter(|strike| (1..=PRICE_BOUND).contains(strike))
+        .map(|strike| call_at(price, strike))
 }
 
-// A contract's delta by its strike.
-fn settle(price: u64, kind: Kind, strike: Option<u64>) -> Option<i32>
-    ensures { result ≡ settled_at price kind strike }
-{
-    match (kind, call_of(price, strike)) {
-        (Kind::Future, _) => Some(DELTA_BOUND),
-        (Kind::Call, call) => call,
-        (Kind::Put, Some(call)) => Some(call - DELTA_BOUND),
-        (Kind::Put, None) => None,
-    }
-}
+impl Quote for u64 {
+    ghost made = { settled_at };
 
-impl<'r, 'a> Delta for Settlement<'r, 'a> {
-    ghost answer = { λ s. (settled_by s).delta };
+    ghost lawful = { settled_lawful };
 
-    ghost lawful = { λ s contract kind. settled_lawful (settled_by s).price kind (strike_of s contract) };
-
-    fn delta(&self, contract: usize, kind: Kind) -> Option<i32> {
-        settle(self.price, kind, self.strikes.find(contract as u64))
-    }
-}
-
-impl<'r, 'a> PricedDelta for Settlement<'r, 'a> {
-    ghost at = { λ s. (settled_by s).minute };
-
-    ghost worth = { λ s. (settled_by s).price };
-
-    fn minute(&self) -> u64 {
-        self.minute
-    }
-
-    fn price(&self) -> u64 {
-        self.price
+    fn delta(price: u64, kind: Kind, row: Option<u64>) -> Option<i32>
+        ensures { result ≡ settled_at price kind row }
+    {
+        match kind {
+            Kind::Future => Some(DELTA_BOUND),
+            Kind::Call => call_of(price, row),
+            Kind::Put => call_of(price, row).map(|call| call - DELTA_BOUND),
+        }
     }
 }
