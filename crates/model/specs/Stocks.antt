@@ -44,25 +44,25 @@ abbrev pub untimely : Stock → Source → Source → Bool
 untimely k two d = not (d.minute == close_minute) || k.ban && not (two.minute == two_minute)
 
 -- UNSET, TIME, PRICE for the closing price alone
-abbrev pub close_table : Ledger → ℕ → Source → Source → List (Bool × Refusal)
-close_table s u two d =
-    (is_unset (s.stocks u).limit, Unset)
-    ∷ (untimely (s.stocks u) two d, Time)
+abbrev pub close_table : Stock → Source → Source → List (Bool × Refusal)
+close_table k two d =
+    (is_unset k.limit, Unset)
+    ∷ (untimely k two d, Time)
     ∷ (not (in_range 1 price_bound d.price), Price)
     ∷ []
 
 -- DELTA at closing deltas wherever the book is non-zero; in a ban, then at two o'clock deltas wherever book or base is;
 -- by the contracts that lack a delta at two o'clock and at the close
-abbrev pub delta_verdict : ℕ → Ledger → ℕ → (ℕ → Bool) → (ℕ → Bool) → Verdict
-delta_verdict n s u at_two at_close =
+abbrev pub delta_verdict : ℕ → Ledger → Bool → (ℕ → Bool) → (ℕ → Bool) → Verdict
+delta_verdict n s ban at_two at_close =
     unless_missing (missing n at_close (holds s.book.at))
-    (cond (s.stocks u).ban (unless_missing (missing n at_two (holds_either s.book.at s.base)) (Ok tt)) (Ok tt))
+    (cond ban (unless_missing (missing n at_two (holds_either s.book.at s.base)) (Ok tt)) (Ok tt))
 
 abbrev pub of_deltas : Listing → Ledger → ℕ → Source → Source → Verdict
-of_deltas l s u two d = delta_verdict l.entities s u (lacks_delta l.contracts u two.delta) (lacks_delta l.contracts u d.delta)
+of_deltas l s u two d = delta_verdict l.entities s (s.stocks u).ban (lacks_delta l.contracts u two.delta) (lacks_delta l.contracts u d.delta)
 
 abbrev pub of_close : Listing → Ledger → ℕ → Source → Source → Verdict
-of_close l s u two d = unless (stock_table l u) (unless (close_table s u two d) (of_deltas l s u two d))
+of_close l s u two d = unless (stock_table l u) (unless (close_table (s.stocks u) two d) (of_deltas l s u two d))
 
 -- limit setting: INPUT for a number that is out of range
 abbrev pub of_limit : Listing → ℕ → ℕ → List ℕ → Verdict
@@ -82,6 +82,10 @@ ban_begins l s u d = begins (limit_in (s.stocks u).limit) (interest_at l u d s.b
 abbrev pub ban_ends : Listing → Ledger → ℕ → Source → Bool
 ban_ends l s u d = ends (limit_in (s.stocks u).limit) (interest_at l u d s.book.at)
 
+-- what becomes of a stock's ban at this market interest
+abbrev pub turn_by : Stock → ℕ → Turn
+turn_by k interest = turn_of k.ban (begins (limit_in k.limit) interest) (ends (limit_in k.limit) interest)
+
 -- what becomes of the ban
 abbrev pub turn_at : Listing → Ledger → ℕ → Source → Turn
 turn_at l s u d = turn_of (s.stocks u).ban (ban_begins l s u d) (ban_ends l s u d)
@@ -96,14 +100,18 @@ charged_at l s u two d = charged_count l.entities (turn_at l s u d) (weights l u
 abbrev pub base_after : Listing → Ledger → ℕ → Source → Source → Quantities
 base_after l s u two d = closed_base l.entities (within l.contracts u) (turn_at l s u d) (weights l u two) s.base s.book.at
 
--- the stock: its ban, and what each entity violated and is charged
-abbrev pub closed_stock : Listing → Ledger → ℕ → Source → Source → Stock
-closed_stock l s u two d = record {
-  limit = (s.stocks u).limit;
-  ban = in_force (turn_at l s u d);
-  violated = closed_violated l.entities (turn_at l s u d) (weights l u two) s.base s.book.at;
-  charge = closed_charge l.entities (turn_at l s u d) (weights l u two) s.base s.book.at d.price;
+-- a stock as its ban turns: the ban, and what each of n entities violated and is charged
+abbrev pub turned : ℕ → Turn → (ℕ → ℤ) → Quantities → Quantities → ℕ → Stock → Stock
+turned n turn w base book price k = record {
+  limit = k.limit;
+  ban = in_force turn;
+  violated = closed_violated n turn w base book;
+  charge = closed_charge n turn w base book price;
 }
+
+abbrev pub closed_stock : Listing → Ledger → ℕ → Source → Source → Stock
+closed_stock l s u two d =
+    turned l.entities (turn_at l s u d) (weights l u two) s.base s.book.at d.price (s.stocks u)
 
 abbrev pub closed : Listing → Ledger → ℕ → Source → Source → Ledger
 closed l s u two d = record {

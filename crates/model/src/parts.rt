@@ -1,5 +1,5 @@
 // The plain data that a monitor keeps.
-// use stock::close::Violation;
+use stock::violation::Violation;
 use terms::bounds::MOST_ENTITIES;
 
 // What an index's day waits for.
@@ -52,5 +52,5 @@ pub struct IndexRecord {
 pub struct StockRecord {
     pub limit: Option<u64>,
     pub banned: bool,
-    pub violations: [Option<u64>; MOST_ENTITIES],
+    pub violations: [Option<Violation>; MOST_ENTITIES],
 }

@@ -1,3 +1,4 @@
 pub mod Same
 pub mod New
 pub mod Open
+pub mod Limited

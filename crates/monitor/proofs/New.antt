@@ -1,5 +1,5 @@
 -- A new monitor's tables hold nothing.
-use Rattle.std.proofs.Common.{◌≡◌, ℕ, false, T, get_or, replicate, pos, None, Option, unwrap_or, refl, ap, ◌∙◌}
+use Rattle.std.proofs.Common.{◌≡◌, ℕ, false, T, get_or, replicate, pos, None, Option, refl, ap, ◌∙◌}
 use Rattle.terms.specs.Bounds.{most_entities, most_underlyings, ticket_count}
 use Rattle.terms.specs.declared.command.Trade.{Trade}
 use Rattle.terms.specs.declared.mark.Mark.{Mark}
@@ -8,6 +8,7 @@ use Rattle.book.specs.Holding.{Holding}
 use Rattle.model.specs.declared.parts.IndexRecord.{IndexRecord}
 use Rattle.model.specs.declared.parts.StockRecord.{StockRecord}
 use Rattle.model.specs.State.{Quantities, no_day, no_row, no_stock, new_ledger}
+use Rattle.stock.specs.Close.{quantity_or_zero, charge_or_zero}
 use Rattle.monitor.specs.Modest.{modest}
 use Rattle.monitor.specs.View.{tickets_of, no_index, no_record, days_of, stock_in, stocks_of, four, four_of, marks_of}
 use Rattle.monitor.proofs.Same.{same_everywhere, everywhere_replicate, everywhere_replicate_or}
@@ -35,7 +36,7 @@ no_days : (u : ℕ) → days_of (replicate most_underlyings new_index) u ≡ no_
 no_days u = everywhere_replicate_or (λ (x : IndexRecord). x.day ≡ no_day) new_index no_index most_underlyings refl refl u
 
 no_stocks : (u : ℕ) → stocks_of (replicate most_underlyings new_stock) u ≡ no_stock
-no_stocks u = everywhere_replicate_or (λ (x : StockRecord). stock_in x ≡ no_stock) new_stock no_record most_underlyings (λ i. record { limit = None; ban = false; violated = λ e. unwrap_or (same_everywhere most_entities e None i) 0; charge = λ e. unwrap_or (same_everywhere most_entities e None i) 0 }) refl u
+no_stocks u = everywhere_replicate_or (λ (x : StockRecord). stock_in x ≡ no_stock) new_stock no_record most_underlyings (λ i. record { limit = None; ban = false; violated = λ e. quantity_or_zero (same_everywhere most_entities e None i); charge = λ e. charge_or_zero (same_everywhere most_entities e None i) }) refl u
 
 pub no_ledger : (b : Holding) (q : Quantities) → q ≡ (λ e c. pos 0) → record {
   book = b;

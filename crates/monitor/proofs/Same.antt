@@ -21,10 +21,13 @@ everywhere_replicate P x n p k = everywhere_replicate_or P x x n p p k
 pub everywhere_at : {A : Type 0} (P : A → Type 0) (k : ℕ) (a : A) (f : ℕ → A) → ((j : ℕ) → P (f j)) → P a → (j : ℕ) → P (at k a f j)
 everywhere_at P k a f h p j = cond_both (eqb j k) a (f j) P (λ _. p) (λ _. h j)
 
--- a list that is written at one place, by its places
-pub at_set : {A : Type 0} (xs : List A) (k : ℕ) (v d : A) → k < length xs → (λ j. get_or (set xs k v) j d) ≡ at k v (λ j. get_or xs j d)
-at_set xs k v d h = fun_ext (λ j. each j (eqb j k) refl)
+-- a list that is written at one place, as a function of its places
+pub at_set_by : {A X : Type 0} (view : A → X) (xs : List A) (k : ℕ) (v d : A) → k < length xs → (λ j. view (get_or (set xs k v) j d)) ≡ at k (view v) (λ j. view (get_or xs j d))
+at_set_by view xs k v d h = fun_ext (λ j. each j (eqb j k) refl)
   where
-    each : (j : ℕ) (t : Bool) → eqb j k ≡ t → get_or (set xs k v) j d ≡ cond t v (get_or xs j d)
-    each j true e = ap (λ (i : ℕ). get_or (set xs k v) i d) (eqb-true j k e) ∙ get_or-set_same xs k v d h
-    each j false e = get_or-set_other xs k j v d (eqb-false j k e)
+    each : (j : ℕ) (t : Bool) → eqb j k ≡ t → view (get_or (set xs k v) j d) ≡ cond t (view v) (view (get_or xs j d))
+    each j true e = ap (λ (i : ℕ). view (get_or (set xs k v) i d)) (eqb-true j k e) ∙ ap view (get_or-set_same xs k v d h)
+    each j false e = ap view (get_or-set_other xs k j v d (eqb-false j k e))
+
+pub at_set : {A : Type 0} (xs : List A) (k : ℕ) (v d : A) → k < length xs → (λ j. get_or (set xs k v) j d) ≡ at k v (λ j. get_or xs j d)
+at_set = at_set_by (λ x. x)

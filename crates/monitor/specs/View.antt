@@ -1,12 +1,12 @@
 -- What the code's monitor means: its state in the model.
-use Rattle.std.specs.Prelude.{ℕ, false, List, [], None, Option, replicate, slice_index_or, unwrap_or}
+use Rattle.std.specs.Prelude.{ℕ, false, List, [], None, Option, slice_index_or}
 use Rattle.terms.specs.declared.command.Trade.{Trade}
 use Rattle.terms.specs.declared.mark.Mark.{Mark}
 use Rattle.terms.specs.declared.mark.Mark.TheVariants.{NetLong, NetShort, GrossLong, GrossShort}
 use Rattle.book.specs.Holding.{Holding}
-use Rattle.stock.specs.Close.{base_of}
+use Rattle.stock.specs.Close.{base_of, violated_in, charge_in}
+use Rattle.stock.specs.declared.violation.Violation.{Violation}
 use Rattle.model.specs.declared.parts.Day.{Day}
-use Rattle.model.specs.declared.parts.MarkRow.{MarkRow}
 use Rattle.model.specs.declared.parts.Four.{Four}
 use Rattle.model.specs.declared.parts.IndexRecord.{IndexRecord}
 use Rattle.model.specs.declared.parts.StockRecord.{StockRecord}
@@ -31,7 +31,11 @@ days_of is u = (slice_index_or is u no_index).day
 
 -- a stock by its record
 abbrev pub stock_in : StockRecord → Stock
-stock_in k = record { limit = k.limit; ban = k.banned; violated = λ e. unwrap_or (slice_index_or k.violations e None) 0; charge = λ e. unwrap_or (slice_index_or k.violations e None) 0 }
+stock_in k = record { limit = k.limit; ban = k.banned; violated = violated_in k.violations; charge = charge_in k.violations }
+
+-- what a stock's last close found of an entity
+abbrev pub violation_of : List StockRecord → ℕ → ℕ → Option Violation
+violation_of ks u e = slice_index_or (slice_index_or ks u no_record).violations e None
 
 abbrev pub stocks_of : List StockRecord → ℕ → Stock
 stocks_of ks u = stock_in (slice_index_or ks u no_record)

@@ -2,9 +2,12 @@
 #![tactic(auto)]
 
 pub mod calls;
+pub mod close;
 pub mod custody;
 pub mod fixed;
 pub mod inner;
 pub mod listing;
 pub mod opening;
+pub mod readings;
 pub mod state;
+pub mod stocks;

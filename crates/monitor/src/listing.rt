@@ -1,4 +1,7 @@
 // What a monitor is opened over.
+ghost use Rattle.std.specs.Prelude.{◌≡◌};
+
+use reading::chain::Chain;
 use terms::kind::{Contract, Underlying};
 use terms::limits::Limits;
 
@@ -16,4 +19,17 @@ pub struct Listing<'t> {
 pub struct Terms<'t> {
     pub(crate) listing: Listing<'t>,
     pub(crate) limits: Limits,
+}
+
+impl<'t> Listing<'t> {
+    // The contracts on one underlying.
+    pub(crate) fn chain(self, underlying: usize) -> Chain<'t>
+        ensures contracts { result.contracts.now ≡ self.entry.contracts.now }
+        ensures underlying { result.underlying ≡ underlying }
+    {
+        Chain {
+            contracts: self.contracts,
+            underlying,
+        }
+    }
 }

@@ -14,9 +14,7 @@ use crate::state::Monitor;
 use book::position::Book;
 use model::parts::{Day, Due, Four, IndexRecord, MarkRow, StockRecord};
 use stock::base::Base;
-use terms::bounds::{
-    AMOUNT_BOUND, MOST_CONTRACTS, MOST_ENTITIES, MOST_UNDERLYINGS, TICKETS,
-};
+use terms::bounds::{AMOUNT_BOUND, MOST_CONTRACTS, MOST_ENTITIES, MOST_UNDERLYINGS, TICKETS};
 use terms::kind::{Contract, Kind, Underlying};
 use terms::limits::Limits;
 
