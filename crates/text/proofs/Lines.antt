@@ -1,89 +1,88 @@
 -- How a line falls into words.
-use Rattle.std.proofs.Common.{◌≡◌, ℕ, ◌+◌, ◌<◌, ◌≤◌, Bool, true, false, cond, not, eqb, List, [], ◌∷◌, ◌++◌, length, take, drop, is_ok, Some, None, Ok, Err, IsUtf8, Result, sym, refl, ap, ◌∙◌, ⊎_elim, one-add, arith, length-take, MatchResult}
-use lib.Utf8.{scalars, encodes}
-use Rattle.std.specs.List.{prefix_len}
-use Rattle.std.specs.Str.{chars, bytes_eq}
-use Rattle.std.proofs.lemmas.Slice.Eq.{bytes_eq-Decides}
-use Rattle.std.proofs.lemmas.List.{length-take-le}
-use Rattle.std.proofs.lemmas.Bool.{eq-eqb, ne_eqb, cond-true, cond-false, and_from, and_parts, cases_Bool}
-use Rattle.std.proofs.lemmas.Str.{scalars-chars, encodes-chars}
+use Rattle.std.proofs.Common.{◌≡◌, ◌≢◌, ℕ, ◌+◌, ◌<◌, ◌≤◌, Bool, true, false, cond, not, eqb, ltb, List, [], ◌∷◌, ◌++◌, length, take, drop, unwrap_or, Some, None, Option, MatchOption, Bor, sym, refl, ap, ◌∙◌, one-add, arith, length-drop, true-eqb, position, ◌-◌}
+use Rattle.std.specs.List.{position_or_len, slice_split, onto_first}
+use Rattle.std.proofs.lemmas.Bool.{ltb-true, ltb-false}
+use Rattle.std.proofs.lemmas.List.{length-take-le, at_drop_all, take_all}
 use Rattle.std.proofs.lemmas.List.Sums.{prefix_len-le-length}
-use Rattle.text.specs.declared.words.Class.TheVariants.{Plain, Blank, Solid}
-use Rattle.text.specs.Scans.{belongs}
-use Rattle.text.specs.Words.{blank, unreturned, uncommented, onto, pieces, solid, first, others, count_before, is_text}
+use Rattle.text.specs.Words.{blank, unreturned, solid, solid_pieces}
 
-cons_cond : (t : Bool) (a : ℕ) (xs ys : List ℕ) → a ∷ cond t xs ys ≡ cond t (a ∷ xs) (a ∷ ys)
-cons_cond true a xs ys = refl
-cons_cond false a xs ys = refl
+-- a line that ends in a carriage return, and one that does not
+unreturned_front : (front : List ℕ) → unreturned (front ++ 13 ∷ []) ≡ front
+unreturned_front [] = refl
+unreturned_front (a ∷ []) = refl
+unreturned_front (a ∷ b ∷ front) = ap (λ l. a ∷ l) (unreturned_front (b ∷ front))
 
--- a line that ends in x
-pub unreturned_last : (xs : List ℕ) (x : ℕ) → unreturned (xs ++ x ∷ []) ≡ cond (eqb x 13) xs (xs ++ x ∷ [])
-unreturned_last [] x = refl
-unreturned_last (a ∷ []) x = cons_cond (eqb x 13) a [] (x ∷ [])
-unreturned_last (a ∷ b ∷ xs) x = ap (λ l. a ∷ l) (unreturned_last (b ∷ xs) x) ∙ cons_cond (eqb x 13) a (b ∷ xs) ((b ∷ xs) ++ x ∷ [])
-
-pub with_return : (bs xs : List ℕ) (x : ℕ) → bs ≡ xs ++ x ∷ [] → x ≡ 13 → xs ≡ unreturned bs
-with_return bs xs x e h = sym (ap unreturned e ∙ unreturned_last xs x ∙ cond-true (eqb x 13) xs (xs ++ x ∷ []) (eq-eqb x 13 h))
-
-pub without_return_is : (bs xs : List ℕ) (x : ℕ) → bs ≡ xs ++ x ∷ [] → (x ≡ 13 → ⊥) → bs ≡ unreturned bs
-without_return_is bs xs x e h = sym (ap unreturned e ∙ unreturned_last xs x ∙ cond-false (eqb x 13) xs (xs ++ x ∷ []) (ne_eqb x 13 h) ∙ sym e)
-
--- a comment starts behind the longest front without its sign
-pub uncommented_is : (bs : List ℕ) → uncommented bs ≡ take (prefix_len (belongs Plain) bs) bs
-uncommented_is [] = refl
-uncommented_is (b ∷ bs) = go (eqb b 35) (uncommented_is bs)
+unreturned_all : (bs : List ℕ) → ((front : List ℕ) → bs ≢ front ++ 13 ∷ []) → unreturned bs ≡ bs
+unreturned_all [] h = refl
+unreturned_all (b ∷ []) h = go (eqb b 13) refl
   where
-    go : (t : Bool) → uncommented bs ≡ take (prefix_len (belongs Plain) bs) bs → cond t [] (b ∷ uncommented bs) ≡ take (cond (not t) (1 + prefix_len (belongs Plain) bs) 0) (b ∷ bs)
-    go true ih = refl
-    go false ih = rw one-add (ap (λ l. b ∷ l) ih)
+    go : (t : Bool) → eqb b 13 ≡ t → cond t [] (b ∷ []) ≡ b ∷ []
+    go true e = absurd (h [] (ap (λ n. n ∷ []) (true-eqb b 13 (sym e))))
+    go false e = refl
+unreturned_all (b ∷ c ∷ bs) h = ap (λ l. b ∷ l) (unreturned_all (c ∷ bs) (λ front e. h (b ∷ front) (ap (λ l. b ∷ l) e)))
+
+pub unreturned_is : (line : Bor (List ℕ)) (o : Option (Bor (List ℕ))) → MatchOption o ((front : List ℕ) → line.now ≢ front ++ 13 ∷ []) (λ x. line.now ≡ x.now ++ 13 ∷ []) → (unwrap_or o line).now ≡ unreturned line.now
+unreturned_is line None h = sym (unreturned_all line.now h)
+unreturned_is line (Some x) h = sym (ap unreturned h ∙ unreturned_front x.now)
+
+-- the place of the first element that passes, as `position` tells it
+module _ {X : Type 0} (p : X → Bool) (xs : List X) (o : Option ℕ) (is : o ≡ cond (ltb (position_or_len p xs) (length xs)) (Some (position_or_len p xs)) None) where
+  pub place_cases : MatchOption o (length xs ≤ position_or_len p xs) (λ i. (i ≡ position_or_len p xs) × (i < length xs))
+  place_cases = rw is (go (ltb (position_or_len p xs) (length xs)) refl)
+    where
+      go : (t : Bool) → ltb (position_or_len p xs) (length xs) ≡ t → MatchOption (cond t (Some (position_or_len p xs)) None) (length xs ≤ position_or_len p xs) (λ i. (i ≡ position_or_len p xs) × (i < length xs))
+      go true h = (refl, ltb-true _ _ h)
+      go false h = ltb-false _ _ h
+
+  -- where none passes, it is the end
+  pub place_or_end : unwrap_or o (length xs) ≡ position_or_len p xs
+  place_or_end = ap (λ q. unwrap_or q (length xs)) is ∙ go (ltb (position_or_len p xs) (length xs)) refl
+    where
+      go : (t : Bool) → ltb (position_or_len p xs) (length xs) ≡ t → unwrap_or (cond t (Some (position_or_len p xs)) None) (length xs) ≡ position_or_len p xs
+      go true h = refl
+      go false h = omega (arith, prefix_len-le-length (λ x. not (p x)) xs, ltb-false _ _ h)
+
+-- where the first word starts
+abbrev start : List ℕ → ℕ
+start bs = position_or_len (λ b. not (blank b)) bs
 
 -- separators in front change no word
-pub past_blanks : (bs : List ℕ) → solid (pieces (drop (prefix_len (belongs Blank) bs) bs)) ≡ solid (pieces bs)
+past_blanks : (bs : List ℕ) → solid_pieces (drop (start bs) bs) ≡ solid_pieces bs
 past_blanks [] = refl
 past_blanks (b ∷ bs) = go (blank b) refl (past_blanks bs)
   where
-    go : (t : Bool) → blank b ≡ t → solid (pieces (drop (prefix_len (belongs Blank) bs) bs)) ≡ solid (pieces bs) → solid (pieces (drop (prefix_len (belongs Blank) (b ∷ bs)) (b ∷ bs))) ≡ solid (pieces (b ∷ bs))
+    go : (t : Bool) → blank b ≡ t → solid_pieces (drop (start bs) bs) ≡ solid_pieces bs → solid_pieces (drop (start (b ∷ bs)) (b ∷ bs)) ≡ solid_pieces (b ∷ bs)
     go true e ih = simp (e, one-add) ih
     go false e ih = simp e
 
--- where no word follows the separators, there is none
-pub no_word : (bs : List ℕ) → prefix_len (belongs Solid) (drop (prefix_len (belongs Blank) bs) bs) ≡ 0 → solid (pieces bs) ≡ []
-no_word [] h = refl
-no_word (b ∷ bs) h = go (blank b) refl (no_word bs)
+starts_solid : (bs : List ℕ) → start bs < length bs → 0 < position_or_len blank (drop (start bs) bs)
+starts_solid [] h = absurd (omega arith)
+starts_solid (b ∷ bs) h = go (blank b) refl (starts_solid bs)
   where
-    go : (t : Bool) → blank b ≡ t → (prefix_len (belongs Solid) (drop (prefix_len (belongs Blank) bs) bs) ≡ 0 → solid (pieces bs) ≡ []) → solid (pieces (b ∷ bs)) ≡ []
-    go true e ih = simp e (ih (simp (e, one-add) at h))
-    go false e ih = let z = simp e at h in absurd (omega arith)
-
--- a word, put in front of the first piece
-abbrev glue : List ℕ → List (List ℕ) → List (List ℕ)
-glue [] ps = ps
-glue (b ∷ w) ps = onto b (glue w ps)
-
-glued : (w : List ℕ) (ps : List (List ℕ)) → glue w ([] ∷ ps) ≡ w ∷ ps
-glued [] ps = refl
-glued (b ∷ w) ps = ap (onto b) (glued w ps)
+    go : (t : Bool) → blank b ≡ t → (start bs < length bs → 0 < position_or_len blank (drop (start bs) bs)) → 0 < position_or_len blank (drop (start (b ∷ bs)) (b ∷ bs))
+    go true e ih = simp (e, one-add) (ih (let k = simp e at h in omega arith))
+    go false e ih = simp e (omega arith)
 
 -- the pieces behind the first one
 abbrev behind : List ℕ → List (List ℕ)
 behind [] = []
-behind (b ∷ bs) = cond (blank b) (pieces bs) (behind bs)
+behind (b ∷ bs) = cond (blank b) (slice_split blank bs) (behind bs)
 
--- the first piece is the longest front without separators
-first_piece : (bs : List ℕ) → pieces bs ≡ glue (take (prefix_len (belongs Solid) bs) bs) (pieces (drop (prefix_len (belongs Solid) bs) bs))
+-- the first piece ends at the first separator
+first_piece : (bs : List ℕ) → slice_split blank bs ≡ take (position_or_len blank bs) bs ∷ behind bs
 first_piece [] = refl
 first_piece (b ∷ bs) = go (blank b) refl (first_piece bs)
   where
-    go : (t : Bool) → blank b ≡ t → pieces bs ≡ glue (take (prefix_len (belongs Solid) bs) bs) (pieces (drop (prefix_len (belongs Solid) bs) bs)) → pieces (b ∷ bs) ≡ glue (take (prefix_len (belongs Solid) (b ∷ bs)) (b ∷ bs)) (pieces (drop (prefix_len (belongs Solid) (b ∷ bs)) (b ∷ bs)))
+    go : (t : Bool) → blank b ≡ t → slice_split blank bs ≡ take (position_or_len blank bs) bs ∷ behind bs → slice_split blank (b ∷ bs) ≡ take (position_or_len blank (b ∷ bs)) (b ∷ bs) ∷ behind (b ∷ bs)
     go true e ih = simp e
-    go false e ih = simp (e, one-add) (ap (onto b) ih)
+    go false e ih = simp (e, one-add) (ap (onto_first b) ih)
 
 -- and behind it an empty one begins
-edge : (bs : List ℕ) → pieces (drop (prefix_len (belongs Solid) bs) bs) ≡ [] ∷ behind bs
+edge : (bs : List ℕ) → slice_split blank (drop (position_or_len blank bs) bs) ≡ [] ∷ behind bs
 edge [] = refl
 edge (b ∷ bs) = go (blank b) refl (edge bs)
   where
-    go : (t : Bool) → blank b ≡ t → pieces (drop (prefix_len (belongs Solid) bs) bs) ≡ [] ∷ behind bs → pieces (drop (prefix_len (belongs Solid) (b ∷ bs)) (b ∷ bs)) ≡ [] ∷ behind (b ∷ bs)
+    go : (t : Bool) → blank b ≡ t → slice_split blank (drop (position_or_len blank bs) bs) ≡ [] ∷ behind bs → slice_split blank (drop (position_or_len blank (b ∷ bs)) (b ∷ bs)) ≡ [] ∷ behind (b ∷ bs)
     go true e ih = simp e
     go false e ih = simp (e, one-add) ih
 
@@ -92,71 +91,34 @@ taken [] ps h = absurd (omega arith)
 taken (b ∷ w) ps h = refl
 
 -- the first word of what begins with one
-pub one_word : (bs : List ℕ) → 0 < prefix_len (belongs Solid) bs → solid (pieces bs) ≡ take (prefix_len (belongs Solid) bs) bs ∷ solid (pieces (drop (prefix_len (belongs Solid) bs) bs))
+one_word : (bs : List ℕ) → 0 < position_or_len blank bs → solid_pieces bs ≡ take (position_or_len blank bs) bs ∷ solid_pieces (drop (position_or_len blank bs) bs)
 one_word bs h =
-    let n : ℕ = prefix_len (belongs Solid) bs in
-    let long : 0 < length (take n bs) = simp length-take (omega (arith, prefix_len-le-length (belongs Solid) bs)) in
-    ap solid (first_piece bs ∙ ap (glue (take n bs)) (edge bs) ∙ glued (take n bs) (behind bs)) ∙ taken (take n bs) (behind bs) long ∙ ap (λ ps. take n bs ∷ solid ps) (sym (edge bs))
+    let n : ℕ = position_or_len blank bs in
+    let long : 0 < length (take n bs) = omega (arith, length-take-le n bs (prefix_len-le-length (λ b. not (blank b)) bs)) in
+    ap solid (first_piece bs) ∙ taken (take n bs) (behind bs) long ∙ ap (λ ps. take n bs ∷ solid ps) (sym (edge bs))
 
-length_onto : (b : ℕ) (ps : List (List ℕ)) → length (solid (onto b ps)) ≤ 1 + length (solid ps)
+-- the words of what is left of a line: none, or the one cut off and those behind it
+pub none_left : (bs : List ℕ) → None ≡ position (λ b. not (blank b)) bs → solid_pieces bs ≡ []
+none_left bs e = sym (past_blanks bs) ∙ at_drop_all solid_pieces bs (start bs) (place_cases (λ b. not (blank b)) bs None e)
+
+module _ (bs text : List ℕ) (i j : ℕ) (found : Some i ≡ position (λ b. not (blank b)) bs) (from : text ≡ take (length bs - i) (drop i bs)) (end : j ≡ position_or_len blank text) where
+  pub one_more : solid_pieces bs ≡ take j text ∷ solid_pieces (drop j text)
+  one_more =
+      let place = place_cases (λ b. not (blank b)) bs (Some i) found in
+      let at : text ≡ drop (start bs) bs = from ∙ take_all (length bs - i) (drop i bs) (simp length-drop (omega arith)) ∙ ap (λ n. drop n bs) place.0 in
+      let some : 0 < position_or_len blank text = rw at (starts_solid bs (omega (arith, place))) in
+      sym (past_blanks bs) ∙ ap solid_pieces (sym at) ∙ one_word text some ∙ ap (λ n. take n text ∷ solid_pieces (drop n text)) (sym end)
+
+length_onto : (b : ℕ) (ps : List (List ℕ)) → length (solid (onto_first b ps)) ≤ 1 + length (solid ps)
 length_onto b [] = omega arith
 length_onto b ([] ∷ ps) = omega arith
 length_onto b ((c ∷ p) ∷ ps) = omega arith
 
 -- there are no more words than bytes
-pub few_words : (bs : List ℕ) → length (solid (pieces bs)) ≤ length bs
+pub few_words : (bs : List ℕ) → length (solid_pieces bs) ≤ length bs
 few_words [] = omega arith
 few_words (b ∷ bs) = go (blank b) refl (few_words bs)
   where
-    go : (t : Bool) → blank b ≡ t → length (solid (pieces bs)) ≤ length bs → length (solid (pieces (b ∷ bs))) ≤ length (b ∷ bs)
+    go : (t : Bool) → blank b ≡ t → length (solid_pieces bs) ≤ length bs → length (solid_pieces (b ∷ bs)) ≤ length (b ∷ bs)
     go true e ih = simp e (omega arith)
-    go false e ih = simp e (omega (arith, length_onto b (pieces bs)))
-
--- what a cursor gives, once the separators in front are passed and the word is cut off
-module _ (bs text word rest : List ℕ) (blanks : text ≡ drop (prefix_len (belongs Blank) bs) bs) (front : word ≡ take (prefix_len (belongs Solid) text) text) (back : rest ≡ drop (prefix_len (belongs Solid) text) text) where
-  count : length word ≡ prefix_len (belongs Solid) text
-  count = ap length front ∙ length-take-le _ text (prefix_len-le-length (belongs Solid) text)
-
-  pub none_left : length word ≡ 0 → (solid (pieces bs) ≡ []) × (solid (pieces rest) ≡ [])
-  none_left h =
-      let z : prefix_len (belongs Solid) text ≡ 0 = omega (arith, count) in
-      let none : solid (pieces bs) ≡ [] = no_word bs (sym (ap (prefix_len (belongs Solid)) blanks) ∙ z) in
-      (none, ap (λ l. solid (pieces l)) (back ∙ ap (λ n. drop n text) z ∙ blanks) ∙ past_blanks bs ∙ none)
-
-  pub one_more : (length word ≡ 0 → ⊥) → solid (pieces bs) ≡ word ∷ solid (pieces rest)
-  one_more h =
-      let some : 0 < prefix_len (belongs Solid) text = omega (arith, count) in
-      sym (past_blanks bs) ∙ ap (λ l. solid (pieces l)) (sym blanks) ∙ one_word text some ∙ (λ i. sym front i ∷ solid (pieces (sym back i)))
-
--- the bytes are text where they are the UTF-8 of something
-text_yes : (bs : List ℕ) → IsUtf8 bs → is_text bs ≡ true
-text_yes bs u = and_from _ _ (scalars-chars bs u) ((bytes_eq-Decides (encodes (chars bs)) bs).1 (encodes-chars bs u))
-
-text_back : (bs : List ℕ) → is_text bs ≡ true → IsUtf8 bs
-text_back bs h =
-    let p = and_parts (scalars (chars bs)) (bytes_eq (encodes (chars bs)) bs) h in
-    (chars bs, (p.0, (bytes_eq-Decides (encodes (chars bs)) bs).0 p.1))
-
-pub text_told : {X E : Type 0} (P : X → Type 0) (Q : E → Type 0) (bs : List ℕ) (r : Result X E) → MatchResult r (λ x. P x × IsUtf8 bs) (λ e. (IsUtf8 bs → ⊥) × Q e) → is_ok r ≡ is_text bs
-text_told P Q bs (Ok x) h = sym (text_yes bs h.1)
-text_told P Q bs (Err e) h = ⊎_elim (λ y. absurd (h.0 (text_back bs y))) sym (cases_Bool (is_text bs))
-
--- the first word and those behind it
-first_and : (w : List ℕ) (rest ws : List (List ℕ)) → Some w ≡ first ws → rest ≡ others ws → ws ≡ w ∷ rest
-first_and w rest [] e r = let z : ◌≡◌ {A = ℕ} 0 1 = cc in absurd (omega arith)
-first_and w rest (x ∷ ws) e r = let same : w ≡ x = cc in λ i. sym same i ∷ sym r i
-
-pub one_longer : (w : List ℕ) (rest ws : List (List ℕ)) → Some w ≡ first ws → rest ≡ others ws → length ws ≡ 1 + length rest
-one_longer w rest ws e r = ap length (first_and w rest ws e r) ∙ omega arith
-
--- how many words come before a name
-module _ (name : List ℕ) where
-  pub before_none : (ws : List (List ℕ)) → None ≡ first ws → count_before name ws ≡ 0
-  before_none [] e = refl
-  before_none (w ∷ ws) e = let z : ◌≡◌ {A = ℕ} 0 1 = cc in absurd (omega arith)
-
-  pub before_here : (w : List ℕ) (ws : List (List ℕ)) → Some w ≡ first ws → true ≡ bytes_eq w name → count_before name ws ≡ 0
-  before_here w ws e t = ap (count_before name) (first_and w (others ws) ws e refl) ∙ ap (λ b. cond b 0 (1 + count_before name (others ws))) (sym t)
-
-  pub before_more : (w : List ℕ) (rest ws : List (List ℕ)) → Some w ≡ first ws → rest ≡ others ws → false ≡ bytes_eq w name → count_before name ws ≡ 1 + count_before name rest
-  before_more w rest ws e r t = ap (count_before name) (first_and w rest ws e r) ∙ ap (λ b. cond b 0 (1 + count_before name rest)) (sym t)
+    go false e ih = simp e (omega (arith, length_onto b (slice_split blank bs)))

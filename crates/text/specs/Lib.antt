@@ -1,3 +1,3 @@
 pub mod Numbers
-pub mod Scans
+pub mod Worded
 pub mod Words

@@ -1,6 +1,7 @@
 -- The words that are numbers of 64 signed bits.
 use Rattle.std.specs.Prelude.{ℕ, ◌+◌, ◌-◌, ◌*◌, ◌^◌, cond, List, [], ◌∷◌, ℤ, pos, negsuc, neg_ℤ, Some, None, Option, ◌==◌, nat_le, nat_lt}
 use Rattle.std.specs.Char.{is_ascii_digit}
+use Rattle.std.specs.Option.{option_and_then}
 
 -- the value of digits behind a number that was read: none where a byte is no digit
 abbrev pub digits_on : ℕ → List ℕ → Option ℕ
@@ -11,11 +12,6 @@ digits_on n (b ∷ bs) = cond (is_ascii_digit b) (digits_on (n * 10 + (b - 48)) 
 abbrev pub natural_of : List ℕ → Option ℕ
 natural_of [] = None
 natural_of (b ∷ bs) = digits_on 0 (b ∷ bs)
-
--- what is done with a value, where there is one
-abbrev pub bind : {X Y : Type 0} → Option X → (X → Option Y) → Option Y
-bind None f = None
-bind (Some x) f = f x
 
 -- one more than the largest number, and the size of the least
 abbrev pub reach : ℕ
@@ -32,7 +28,7 @@ negative n = cond (nat_le n reach) (Some (neg_ℤ (pos n))) None
 -- a number is digits, at least one, with or without a minus sign in front
 abbrev pub number_of : List ℕ → Option ℤ
 number_of [] = None
-number_of (b ∷ bs) = cond (b == 45) (bind (natural_of bs) negative) (bind (natural_of (b ∷ bs)) positive)
+number_of (b ∷ bs) = cond (b == 45) (option_and_then negative (natural_of bs)) (option_and_then positive (natural_of (b ∷ bs)))
 
 -- a negative number stands for the largest unsigned one, which is out of every range
 abbrev pub unsigned : ℤ → ℕ

@@ -1,8 +1,7 @@
 -- The words of a line.
-use Rattle.std.specs.Prelude.{ℕ, ◌+◌, Bool, cond, not, ◌&&◌, ◌||◌, List, [], ◌∷◌, take, drop, Some, None, Option, ◌==◌}
-use Rattle.std.proofs.Math.Utf8.{scalars, encodes}
-use Rattle.std.specs.List.{prefix_len}
-use Rattle.std.specs.Str.{chars, bytes_eq}
+use Rattle.std.specs.Prelude.{ℕ, Bool, true, false, cond, ◌||◌, List, [], ◌∷◌, ◌==◌, filter}
+use Rattle.std.specs.List.{before_first, after_first, position_or_len, slice_split}
+use Rattle.std.specs.Str.{bytes_eq, is_utf8}
 use Rattle.text.specs.declared.words.Words.{Words}
 
 -- spaces and tabs separate words
@@ -17,60 +16,41 @@ unreturned (b ∷ c ∷ bs) = b ∷ unreturned (c ∷ bs)
 
 -- `#` starts a comment
 abbrev pub uncommented : List ℕ → List ℕ
-uncommented [] = []
-uncommented (b ∷ bs) = cond (b == 35) [] (b ∷ uncommented bs)
+uncommented bs = before_first (λ b. b == 35) bs
 
--- a byte in front of the first piece
-abbrev pub onto : ℕ → List (List ℕ) → List (List ℕ)
-onto b [] = (b ∷ []) ∷ []
-onto b (p ∷ ps) = (b ∷ p) ∷ ps
-
--- the pieces between separators, some of them empty
-abbrev pub pieces : List ℕ → List (List ℕ)
-pieces [] = [] ∷ []
-pieces (b ∷ bs) = cond (blank b) ([] ∷ pieces bs) (onto b (pieces bs))
+-- whether a piece has a byte
+abbrev pub is_solid : List ℕ → Bool
+is_solid [] = false
+is_solid (b ∷ bs) = true
 
 -- the pieces that are not empty
 abbrev pub solid : List (List ℕ) → List (List ℕ)
-solid [] = []
-solid ([] ∷ ps) = solid ps
-solid ((b ∷ p) ∷ ps) = (b ∷ p) ∷ solid ps
+solid ps = filter is_solid ps
+
+-- the pieces between separators, without the empty ones
+abbrev pub solid_pieces : List ℕ → List (List ℕ)
+solid_pieces bs = solid (slice_split blank bs)
 
 -- the words of a line
 abbrev pub words_of : List ℕ → List (List ℕ)
-words_of line = solid (pieces (uncommented (unreturned line)))
+words_of line = solid_pieces (uncommented (unreturned line))
 
 -- the words that a cursor has still to give
 abbrev pub to_come : Words → List (List ℕ)
-to_come w = solid (pieces w.rest.now)
-
--- the first of a list, if there is one
-abbrev pub first : {X : Type 0} → List X → Option X
-first [] = None
-first (x ∷ xs) = Some x
-
--- all but the first
-abbrev pub others : {X : Type 0} → List X → List X
-others [] = []
-others (x ∷ xs) = xs
+to_come w = solid_pieces w.rest.now
 
 -- how many words come before the first that is this name
 abbrev pub count_before : List ℕ → List (List ℕ) → ℕ
-count_before name [] = 0
-count_before name (w ∷ ws) = cond (bytes_eq w name) 0 (1 + count_before name ws)
+count_before name ws = position_or_len (λ w. bytes_eq w name) ws
 
--- how many bytes stand before a word's first colon
-abbrev pub colon_at : List ℕ → ℕ
-colon_at w = prefix_len (λ b. not (b == 58)) w
-
--- the bytes before it
+-- the bytes before a word's first colon, or all where there is none
 abbrev pub before_colon : List ℕ → List ℕ
-before_colon w = take (colon_at w) w
+before_colon w = before_first (λ b. b == 58) w
 
 -- the bytes behind it, which are none where there is no colon
 abbrev pub behind_colon : List ℕ → List ℕ
-behind_colon w = others (drop (colon_at w) w)
+behind_colon w = after_first (λ b. b == 58) w
 
--- the bytes are the UTF-8 of characters, which are then those that they decode to
+-- the bytes are the UTF-8 of characters
 abbrev pub is_text : List ℕ → Bool
-is_text bs = scalars (chars bs) && bytes_eq (encodes (chars bs)) bs
+is_text bs = is_utf8 bs

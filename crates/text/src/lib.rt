@@ -1,5 +1,6 @@
-// A line of bytes as words, and a word as a number.
+// A line of bytes as words, and a word as a value.
 #![tactic(auto)]
 
 pub mod number;
+pub mod worded;
 pub mod words;

@@ -1,67 +1,58 @@
 // The words of a line, one by one. specs/Words.antt says which they are.
-ghost use Rattle.std.specs.Prelude.{◌≡◌, ◌≤◌, length, take, drop};
-ghost use Rattle.std.specs.Option.{option_map};
-ghost use Rattle.std.specs.List.{prefix_len};
+ghost use Rattle.std.specs.Prelude.{◌≡◌, ◌≤◌, not, ◌==◌, length, position};
+ghost use Rattle.std.specs.List.{position_or_len};
+ghost use Rattle.std.specs.Iterator.{YieldsFirstBy, item_count};
 ghost use Rattle.std.specs.Str.{bytes_eq};
-ghost use Rattle.text.specs.Scans.{belongs};
-ghost use Rattle.text.specs.Words.{unreturned, words_of, to_come, first, others, count_before, before_colon, behind_colon, is_text};
+ghost use Rattle.text.specs.Words.{blank, unreturned, uncommented, words_of, to_come, count_before, before_colon, behind_colon, is_text};
 
-// The kinds of bytes that a scan passes over.
-#[derive(Clone, Copy)]
-enum Class {
-    // All but the sign that starts a comment.
-    Plain,
-    // What separates words.
-    Blank,
-    // What words are made of.
-    Solid,
-    // All but the colon that parts a word.
-    Left,
+// Whether the byte separates words.
+fn is_blank(byte: u8) -> bool
+    ensures { result ≡ blank byte }
+{
+    byte == b' ' || byte == b'\t'
 }
 
-impl Class {
-    fn has(self, byte: u8) -> bool
-        ensures { result ≡ belongs self byte }
-    {
-        match self {
-            Class::Plain => byte != b'#',
-            Class::Blank => byte == b' ' || byte == b'\t',
-            Class::Solid => byte != b' ' && byte != b'\t',
-            Class::Left => byte != b':',
-        }
-    }
+// Where the first byte stands that separates no words.
+fn first_solid(bytes: &[u8]) -> Option<usize>
+    ensures { result ≡ position (λ b. not (blank b)) bytes.now }
+{
+    bytes.iter().position(|byte| !is_blank(*byte))
 }
 
-// How many bytes at the front are of the class.
-fn run(bytes: &[u8], class: Class) -> usize
-    ensures value { result ≡ prefix_len (belongs class) bytes.now }
+// How many bytes stand before the first that separates words.
+fn solid_len(bytes: &[u8]) -> usize
+    ensures value { result ≡ position_or_len blank bytes.now }
     ensures bound { result ≤ length bytes.now }
 {
-    let mut n = 0;
-    while n < bytes.len() && class.has(bytes[n]) {
-        n += 1;
-    }
-    n
+    bytes
+        .iter()
+        .position(|byte| is_blank(*byte))
+        .unwrap_or(bytes.len())
 }
 
-// The longest front of bytes of the class, and what follows it.
-fn cut(bytes: &[u8], class: Class) -> (&[u8], &[u8])
-    ensures front { result.0.now ≡ take (prefix_len (belongs class) bytes.now) bytes.now }
-    ensures back { result.1.now ≡ drop (prefix_len (belongs class) bytes.now) bytes.now }
+// Where the first colon stands.
+fn colon(word: &[u8]) -> Option<usize>
+    ensures { result ≡ position (λ b. b == 58) word.now }
 {
-    bytes.split_at(run(bytes, class))
+    word.iter().position(|byte| *byte == b':')
 }
 
 // The line without a carriage return at its very end.
 fn without_return(line: &[u8]) -> &[u8]
     ensures { result.now ≡ unreturned line.now }
 {
-    if let Some((last, front)) = line.split_last() {
-        if *last == b'\r' {
-            return front;
-        }
-    }
-    line
+    line.strip_suffix(b"\r").unwrap_or(line)
+}
+
+// The line without its comment.
+fn without_comment(line: &[u8]) -> &[u8]
+    ensures { result.now ≡ uncommented line.now }
+{
+    let end = line
+        .iter()
+        .position(|byte| *byte == b'#')
+        .unwrap_or(line.len());
+    &line[..end]
 }
 
 // What is left of a line.
@@ -75,49 +66,40 @@ impl<'a> Words<'a> {
     pub fn new(line: &'a [u8]) -> Words<'a>
         ensures { to_come result ≡ words_of line.now }
     {
-        let (rest, _) = cut(without_return(line), Class::Plain);
-        Words { rest }
-    }
-
-    // How many words are still to come.
-    pub fn count(self) -> usize
-        ensures { result ≡ length (to_come self.entry) }
-    {
-        let mut words = self;
-        let mut seen = 0;
-        while let Some(_) = words.next_word() {
-            seen += 1;
+        Words {
+            rest: without_comment(without_return(line)),
         }
-        seen
     }
 
     // How many words come before the first that is this name.
-    pub fn count_before(self, name: &str) -> usize
+    pub fn count_before(mut self, name: &str) -> usize
         ensures { result ≡ count_before name.now (to_come self.entry) }
     {
-        let mut words = self;
-        let mut passed = 0;
-        while let Some(word) = words.next_word() {
-            if is(word, name) {
-                return passed;
-            }
-            passed += 1;
-        }
-        passed
+        let all = self.len();
+        self.position(|word| is(word, name)).unwrap_or(all)
     }
+}
 
-    // Takes the next word, if there is one.
-    pub fn next_word(&mut self) -> Option<&'a [u8]>
-        ensures word { option_map (λ x. x.now) result ≡ first (to_come self.old) }
-        ensures rest { to_come self.new ≡ others (to_come self.old) }
-    {
-        let (_, text) = cut(self.rest, Class::Blank);
-        let (word, rest) = cut(text, Class::Solid);
+// The words in the order of the line.
+impl<'a> Iterator for Words<'a> {
+    type Item = &'a [u8];
+
+    ghost next_gives = { YieldsFirstBy (λ x. x.now) to_come };
+
+    ghost remaining = { item_count to_come };
+
+    fn next(&mut self) -> Option<&'a [u8]> {
+        let text = &self.rest[first_solid(self.rest)?..];
+        let (word, rest) = text.split_at(solid_len(text));
         self.rest = rest;
-        if word.is_empty() {
-            return None;
-        }
         Some(word)
+    }
+}
+
+// How many words are still to come.
+impl ExactSizeIterator for Words<'_> {
+    fn len(&self) -> usize {
+        (*self).count()
     }
 }
 
@@ -126,10 +108,9 @@ pub fn halves(word: &[u8]) -> (&[u8], &[u8])
     ensures front { result.0.now ≡ before_colon word.now }
     ensures back { result.1.now ≡ behind_colon word.now }
 {
-    let (front, rest) = cut(word, Class::Left);
-    match rest.split_first() {
-        Some((_, back)) => (front, back),
-        None => (front, rest),
+    match colon(word) {
+        Some(at) => (&word[..at], &word[at + 1..]),
+        None => (word, &[]),
     }
 }
 

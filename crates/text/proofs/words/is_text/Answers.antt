@@ -1,6 +1,6 @@
-use Rattle.std.proofs.Common.{◌∙◌}
-use Rattle.text.proofs.Lines.{text_told}
+use Rattle.std.proofs.Common.{rules}
+use Rattle.std.proofs.lemmas.Str.{IsUtf8-from_is_utf8, is_utf8-from_IsUtf8}
 use Rattle.text.proofs.words.is_text.Goals as goal
 
 pub returns : goal.returns
-returns c = c.is_ok.ensures.value ∙ text_told _ _ _ _ c.from_utf8.ensures.cases
+returns c = search (rules, IsUtf8-from_is_utf8, is_utf8-from_IsUtf8)

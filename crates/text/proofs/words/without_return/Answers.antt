@@ -1,13 +1,9 @@
-use Rattle.std.proofs.Common.{refl}
-use Rattle.std.proofs.lemmas.List.{nil_from_length}
-use Rattle.text.proofs.Lines.{with_return, without_return_is}
+use Rattle.std.proofs.Common.{◌∙◌, ap, ◌∷◌, []}
+use Rattle.std.proofs.lemmas.Bool.Decides.{Decides-eqb}
+use Rattle.std.proofs.lemmas.Slice.Eq.{strip_suffix_is}
+use Rattle.text.proofs.Lines.{unreturned_is}
 use Rattle.text.proofs.words.without_return.Goals as goal
 
-pub returns-then-last-eq13 : goal.returns-then-last-eq13
-returns-then-last-eq13 c = with_return _ _ _ c.in-Some.ensures.cases.0 c.if-last-eq13.true
-
-pub returns-else-last-eq13 : goal.returns-else-last-eq13
-returns-else-last-eq13 c = without_return_is _ _ _ c.in-Some.ensures.cases.0 c.if-last-eq13.false
-
-pub returns-in_default : goal.returns-in_default
-returns-in_default c = rw (nil_from_length c.args.line.now c.in_default.ensures.cases) refl
+pub returns : goal.returns
+returns c =
+    ap (λ l. l.now) c.unwrap_or.ensures ∙ unreturned_is c.args.line c.strip_suffix.result (strip_suffix_is Decides-eqb c.args.line.now (13 ∷ []) c.strip_suffix.result c.strip_suffix.ensures.cases)

@@ -1,20 +1,12 @@
-use Rattle.std.proofs.Common.{arith}
+use Rattle.std.proofs.Common.{◌∙◌, ap, refl, rules, tests, unwrap_or}
+use Rattle.std.specs.Str.{bytes_eq}
+use Rattle.std.proofs.lemmas.Iterator.Consumers.{YieldsList-from_first}
+use Rattle.std.proofs.lemmas.Iterator.Search.{position_from_yields_List}
 use Rattle.text.specs.Words.{to_come}
-use Rattle.text.proofs.Lines.{few_words, one_longer, before_here, before_more, before_none}
+use Rattle.text.proofs.Lines.{place_or_end}
 use Rattle.text.proofs.words.Words.count_before.Goals as goal
 
-pub overflow_add-passed : goal.overflow_add-passed
-overflow_add-passed c = omega (arith, few_words c.args.self.rest.now, c.ranges.self, one_longer _ _ _ c.in-Some.ensures.word c.in-Some.ensures.rest)
-
-pub returns-then-is : goal.returns-then-is
-returns-then-is c = omega (arith, before_here c.args.name.now _ (to_come c.loop-word.words) c.in-Some.ensures.word c.if-is.ensures)
-
-pub loop-word-preserved : goal.loop-word-preserved
-loop-word-preserved c =
-    let said = c.in-Some.ensures in (
-      omega (arith, one_longer _ _ _ said.word said.rest),
-      omega (arith, before_more c.args.name.now _ _ _ said.word said.rest c.if-is.ensures),
-    )
-
 pub returns : goal.returns
-returns c = omega (arith, before_none c.args.name.now (to_come c.loop-word.words) c.in_default.ensures.word)
+returns c =
+    c.unwrap_or.ensures ∙ ap (unwrap_or c.position.result) c.len-all.ensures.value ∙ place_or_end (λ w. bytes_eq w c.args.name.now) (to_come c.args.self) c.position.result
+    (position_from_yields_List (λ w. bytes_eq w c.args.name.now) c.position.new.self _ _ c.position.ensures.ran (YieldsList-from_first (λ x. x.now) to_come (to_come c.args.self) refl) (λ x b q k. search (rules, tests)))
