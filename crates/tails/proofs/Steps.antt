@@ -1,80 +1,35 @@
 -- How the words at the end of a line are taken one by one.
-use Rattle.std.proofs.Common.{◌≡◌, ℕ, zero, suc, ◌-◌, ◌<◌, true, false, cond, List, [], ◌∷◌, take, drop, is_some, Some, None, Option, sym, refl, ap, ◌∙◌, arith}
-use Rattle.text.specs.Words.{first, others}
-use Rattle.tails.specs.Tails.{all_are, ahead, values_of}
-
-take_none : (n : ℕ) (ws : List (List ℕ)) → None ≡ first ws → take n ws ≡ []
-take_none zero ws e = refl
-take_none (suc n) [] e = refl
-take_none (suc n) (w ∷ ws) e = let z : ◌≡◌ {A = ℕ} 0 1 = cc in absurd (omega arith)
-
-drop_none : (n : ℕ) → drop {A = List ℕ} n [] ≡ []
-drop_none zero = refl
-drop_none (suc n) = refl
+use Rattle.std.proofs.Common.{◌≡◌, ℕ, zero, suc, ◌-◌, ◌<◌, true, false, List, [], ◌∷◌, map, take, drop, is_some, Some, None, Option, MatchOption, Bor, sym, refl, ap, ◌∙◌, arith}
+use Rattle.std.specs.Option.{some_prefix}
+use Rattle.std.proofs.lemmas.Bool.{true≢false}
+use Rattle.tails.specs.Tails.{values_of}
 
 -- a word less to pass over
-pub drop_one : (n : ℕ) (ws rest : List (List ℕ)) → 0 < n → rest ≡ others ws → drop (n - 1) rest ≡ drop n ws
-drop_one zero ws rest h r = absurd (omega arith)
-drop_one (suc n) [] rest h r = ap (drop (suc n - 1)) r ∙ drop_none (suc n - 1)
-drop_one (suc n) (w ∷ ws) rest h r = let on : suc n - 1 ≡ n = omega arith in ap (λ k. drop k rest) on ∙ ap (drop n) r
+pub drop_one : (n : ℕ) (ws rest : List (List ℕ)) (r : Option (Bor (List ℕ))) → 0 < n → MatchOption r ((ws ≡ []) × (rest ≡ [])) (λ x. ws ≡ x.now ∷ rest) → drop (n - 1) rest ≡ drop n ws
+drop_one zero ws rest r h e = absurd (omega arith)
+drop_one (suc n) ws rest None h e = ap (drop (suc n - 1)) e.1 ∙ none (suc n - 1) ∙ sym (ap (drop (suc n)) e.0)
+  where
+    none : (k : ℕ) → drop {A = List ℕ} k [] ≡ []
+    none zero = refl
+    none (suc k) = refl
+drop_one (suc n) ws rest (Some x) h e = let on : suc n - 1 ≡ n = omega arith in ap (λ k. drop k rest) on ∙ sym (ap (drop (suc n)) e)
 
--- a word and those behind it
-module _ (n : ℕ) (w : List ℕ) (rest : List (List ℕ)) where
-  pub take_one : (ws : List (List ℕ)) → 0 < n → Some w ≡ first ws → rest ≡ others ws → take n ws ≡ w ∷ take (n - 1) rest
-  take_one [] h e r = let z : ◌≡◌ {A = ℕ} 0 1 = cc in absurd (omega arith)
-  take_one (x ∷ ws) h e r =
-      let same : w ≡ x = cc in
-      let on : n ≡ suc (n - 1) = omega arith in
-      ap (λ k. take k (x ∷ ws)) on ∙ (λ i. sym same i ∷ take (n - 1) (sym r i))
+-- a word that is read as o, and those behind it
+module _ {X : Type 0} (f : List ℕ → Option X) (n m : ℕ) (ws rest : List (List ℕ)) (w : List ℕ) (o : Option X) (more : n ≡ suc m) (front : ws ≡ w ∷ rest) (read : o ≡ f w) where
+  values_now : values_of f (take n ws) ≡ some_prefix (o ∷ map f (take m rest))
+  values_now = ap (λ l. values_of f (take n l)) front ∙ ap (λ k. values_of f (take k (w ∷ rest))) more ∙ ap (λ p. some_prefix (p ∷ map f (take m rest))) (sym read)
 
-module _ {X : Type 0} where
-  pub front : (o : Option X) (xs : List X) → o ≡ first (ahead o xs)
-  front None xs = refl
-  front (Some x) xs = refl
+  -- the values end at a word that is none
+  pub values_end : is_some o ≡ false → MatchOption o ((values_of f (take n ws) ≡ []) × (◌≡◌ {A = List X} [] [])) (λ x. values_of f (take n ws) ≡ x ∷ [])
+  values_end = go o values_now
+    where
+      go : (p : Option X) → values_of f (take n ws) ≡ some_prefix (p ∷ map f (take m rest)) → is_some p ≡ false → MatchOption p ((values_of f (take n ws) ≡ []) × (◌≡◌ {A = List X} [] [])) (λ x. values_of f (take n ws) ≡ x ∷ [])
+      go None e h = (e, refl)
+      go (Some x) e h = absurd (true≢false h)
 
-  pub back : (o : Option X) (xs : List X) → true ≡ is_some o → xs ≡ others (ahead o xs)
-  back None xs h = let z : ◌≡◌ {A = ℕ} 0 1 = cc in absurd (omega arith)
-  back (Some x) xs h = refl
-
-  pub closed : (o : Option X) (xs : List X) → false ≡ is_some o → [] ≡ others (ahead o xs)
-  closed None xs h = refl
-  closed (Some x) xs h = let z : ◌≡◌ {A = ℕ} 0 1 = cc in absurd (omega arith)
-
-module _ {X : Type 0} (f : List ℕ → Option X) (n : ℕ) (ws : List (List ℕ)) where
-  -- no word is left
-  module _ (e : None ≡ first ws) where
-    pub all_ends : true ≡ all_are f (take n ws)
-    all_ends = sym (ap (all_are f) (take_none n ws e))
-
-    pub none_next : None ≡ first (values_of f (take n ws))
-    none_next = sym (ap (λ l. first (values_of f l)) (take_none n ws e))
-
-    pub none_behind : (rest : List (List ℕ)) → rest ≡ others ws → values_of f (take n rest) ≡ others (values_of f (take n ws))
-    none_behind rest r = ap (values_of f) (take_none n rest (still ws e ∙ ap first (sym r))) ∙ sym (ap (λ l. others (values_of f l)) (take_none n ws e))
-      where
-        still : (vs : List (List ℕ)) → None ≡ first vs → None ≡ first (others vs)
-        still [] h = refl
-        still (v ∷ vs) h = let z : ◌≡◌ {A = ℕ} 0 1 = cc in absurd (omega arith)
-
-  -- a word, read as o
-  module _ (w : List ℕ) (rest : List (List ℕ)) (o : Option X) (h : 0 < n) (e : Some w ≡ first ws) (r : rest ≡ others ws) (k : o ≡ f w) where
-    all_now : all_are f (take n ws) ≡ cond (is_some o) (all_are f (take (n - 1) rest)) false
-    all_now = ap (all_are f) (take_one n w rest ws h e r) ∙ ap (λ p. cond (is_some p) (all_are f (take (n - 1) rest)) false) (sym k)
-
-    pub all_stops : false ≡ is_some o → false ≡ all_are f (take n ws)
-    all_stops t = sym (all_now ∙ ap (λ b. cond b (all_are f (take (n - 1) rest)) false) (sym t))
-
-    pub all_goes : true ≡ is_some o → all_are f (take (n - 1) rest) ≡ all_are f (take n ws)
-    all_goes t = sym (all_now ∙ ap (λ b. cond b (all_are f (take (n - 1) rest)) false) (sym t))
-
-    values_now : values_of f (take n ws) ≡ ahead o (values_of f (take (n - 1) rest))
-    values_now = ap (values_of f) (take_one n w rest ws h e r) ∙ ap (λ p. ahead p (values_of f (take (n - 1) rest))) (sym k)
-
-    pub next_is : o ≡ first (values_of f (take n ws))
-    next_is = front o (values_of f (take (n - 1) rest)) ∙ sym (ap first values_now)
-
-    pub behind_are : true ≡ is_some o → values_of f (take (n - 1) rest) ≡ others (values_of f (take n ws))
-    behind_are t = back o (values_of f (take (n - 1) rest)) t ∙ sym (ap others values_now)
-
-    pub ends_here : false ≡ is_some o → [] ≡ others (values_of f (take n ws))
-    ends_here t = closed o (values_of f (take (n - 1) rest)) t ∙ sym (ap others values_now)
+  pub values_go_on : is_some o ≡ true → MatchOption o ((values_of f (take n ws) ≡ []) × (values_of f (take m rest) ≡ [])) (λ x. values_of f (take n ws) ≡ x ∷ values_of f (take m rest))
+  values_go_on = go o values_now
+    where
+      go : (p : Option X) → values_of f (take n ws) ≡ some_prefix (p ∷ map f (take m rest)) → is_some p ≡ true → MatchOption p ((values_of f (take n ws) ≡ []) × (values_of f (take m rest) ≡ [])) (λ x. values_of f (take n ws) ≡ x ∷ values_of f (take m rest))
+      go None e h = absurd (true≢false (sym h))
+      go (Some x) e h = e

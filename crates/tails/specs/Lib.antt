@@ -1,2 +1,1 @@
 pub mod Tails
-pub mod Values

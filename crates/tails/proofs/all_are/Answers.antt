@@ -1,16 +1,11 @@
-use Rattle.std.proofs.Common.{sym, ◌∙◌, arith}
-use Rattle.tails.proofs.Steps.{all_ends, all_stops, all_goes}
+use Rattle.std.proofs.Common.{is_some, rules, tests}
+use Rattle.std.proofs.lemmas.Iterator.{YieldsList-from_take}
+use Rattle.std.proofs.lemmas.Iterator.Consumers.{YieldsList-from_first}
+use Rattle.std.proofs.lemmas.Iterator.Search.{all_from_yields_List}
+use Rattle.text.specs.Words.{to_come}
 use Rattle.tails.proofs.all_are.Goals as goal
 
-pub returns-in_default : goal.returns-in_default
-returns-in_default g c = all_ends g.T.Worded.worded c.loop-left.left _ c.in_default.ensures.word ∙ c.loop-left.invariant
-
-pub returns-then-is_none : goal.returns-then-is_none
-returns-then-is_none g c =
-    let said = c.in-Some.ensures in
-    all_stops g.T.Worded.worded c.loop-left.left _ _ _ _ (omega arith) said.word said.rest c.of_word.ensures (sym c.if-is_none.ensures) ∙ c.loop-left.invariant
-
-pub loop-left-preserved : goal.loop-left-preserved
-loop-left-preserved g c =
-    let said = c.in-Some.ensures in
-    all_goes g.T.Worded.worded c.loop-left.left _ _ _ _ (omega arith) said.word said.rest c.of_word.ensures (sym c.if-is_none.ensures) ∙ c.loop-left.invariant
+pub returns : goal.returns
+returns g c =
+    all_from_yields_List (λ w. is_some (g.T.Worded.worded w)) c.all.new.self _ _ c.all.ensures.ran
+    (YieldsList-from_take c.args.n (YieldsList-from_first (λ x. x.now) to_come (to_come c.args.words) (cc)) c.take.ensures.count) (λ x b q k. search (rules, tests))
