@@ -1,24 +1,23 @@
 -- How the words of a line are taken.
-use Rattle.std.proofs.Common.{◌≡◌, ℕ, eqb, List, [], ◌∷◌, length, Some, Ok, Option, sym, refl, ap, ◌∙◌, arith}
-use Rattle.std.specs.Option.{ok_or}
-use Rattle.std.proofs.lemmas.Bool.{ne_eqb, cond-false}
-use Rattle.text.specs.Words.{first, others}
-use Rattle.journal.specs.Forms.{full, placed, book_form, form_of, read_words}
-use Rattle.journal.specs.Names.{named, verbs}
-use Rattle.journal.specs.Taken.{then}
-use Rattle.replies.specs.declared.fault.Fault.TheVariants.{UnknownWord}
-use Rattle.journal.specs.declared.line.Layout.{Layout}
-use Rattle.journal.specs.declared.line.Layout.TheVariants as layout
-use Rattle.journal.specs.declared.names.Verb.{Verb}
+use Rattle.std.proofs.Common.{◌≡◌, ℕ, Bool, true, false, cond, List, [], ◌∷◌, map, Some, None, Option, Bor, refl, ap, ◌∙◌}
+use Rattle.std.specs.List.{find}
+use Rattle.std.specs.Option.{option_map}
+use Rattle.std.specs.Str.{bytes_eq}
+use Rattle.journal.specs.Names.{named}
 
--- a book whose sizes are not two words has its places written out
-pub not_two : (l : Layout) (ws : List (List ℕ)) → (length ws ≡ 2 → ⊥) → placed l ws ≡ book_form l ws
-not_two layout.Grid ws h = sym (cond-false (eqb (length ws) 2) (full layout.Grid ws) (placed layout.Grid ws) (ne_eqb (length ws) 2 h))
-not_two layout.List ws h = refl
+-- a table's row that is found by its word
+module _ {X : Type 0} (w : List ℕ) where
+  found : (table : List (Bor (List ℕ) × X)) → option_map (λ row. row.1) (find (λ row. bytes_eq w row.0.now) table) ≡ named (map (λ row. (row.0.now, row.1)) table) w
+  found [] = refl
+  found (row ∷ rows) = go (bytes_eq w row.0.now) (found rows)
+    where
+      go : (t : Bool) → option_map (λ row. row.1) (find (λ row. bytes_eq w row.0.now) rows) ≡ named (map (λ row. (row.0.now, row.1)) rows) w → option_map {T = Bor (List ℕ) × X} (λ row. row.1) (cond t (Some row) (find (λ row. bytes_eq w row.0.now) rows)) ≡ option_map {T = List ℕ × X} (λ row. row.1) (cond t (Some (row.0.now, row.1)) (find (λ row. bytes_eq w row.0) (map (λ row. (row.0.now, row.1)) rows)))
+      go true e = refl
+      go false e = e
 
--- a line whose first word is the verb v
-pub read_first : (ws rest : List (List ℕ)) (w : List ℕ) (o : Option Verb) (v : Verb) → Some w ≡ first ws → rest ≡ others ws → o ≡ named verbs w → Ok v ≡ ok_or o UnknownWord → form_of v rest ≡ read_words ws
-read_first [] rest w o v e r n k = let z : ◌≡◌ {A = ℕ} 0 1 = cc in absurd (omega arith)
-read_first (x ∷ ws) rest w o v e r n k =
-    let same : w ≡ x = cc in
-    ap (form_of v) r ∙ ap (λ p. then p (λ u. form_of u ws)) (k ∙ ap (λ p. ok_or p UnknownWord) (n ∙ ap (named verbs) same))
+  pub named_is : (table : List (Bor (List ℕ) × X)) (r : Option (Bor (Bor (List ℕ) × X))) → option_map (λ x. x.now) r ≡ find (λ row. bytes_eq w row.0.now) table → option_map (λ x. x.now.1) r ≡ named (map (λ row. (row.0.now, row.1)) table) w
+  named_is table r e = inner r ∙ ap (option_map (λ row. row.1)) e ∙ found table
+    where
+      inner : (o : Option (Bor (Bor (List ℕ) × X))) → option_map (λ x. x.now.1) o ≡ option_map (λ row. row.1) (option_map (λ x. x.now) o)
+      inner None = refl
+      inner (Some x) = refl

@@ -1,14 +1,13 @@
 -- The forms of a line. The first fault of a line is told, in this order: bytes that are no text; the words that name the form, which are
 -- the first one and, behind `book` and `ask`, the second; the number of the others; and each of these from left to right.
-use Rattle.std.specs.Prelude.{ℕ, ◌*◌, cond, List, [], ◌∷◌, length, ℤ, Ok, Err, Result, ◌==◌, nat_le}
-use Rattle.std.specs.Option.{ok_or}
+use Rattle.std.specs.Prelude.{ℕ, ◌*◌, cond, drop, List, [], ◌∷◌, length, ℤ, Ok, Err, Result, ◌==◌, nat_le}
 use Rattle.terms.specs.declared.command.Command.TheVariants as command
-use Rattle.text.specs.Words.{is_text, words_of, others}
+use Rattle.text.specs.Words.{is_text, words_of}
 use Rattle.journal.specs.Bounds.{book_side, book_places}
-use Rattle.journal.specs.Names.{named, verbs, topics, layouts, underlyings, kinds}
-use Rattle.journal.specs.Taken.{then, counted, next_number, next_unsigned, next_up_to, next_named}
+use Rattle.journal.specs.Names.{name_in, verbs, topics, layouts, underlyings, kinds}
+use Rattle.journal.specs.Taken.{then, counted, numeral, unsigned_numeral, next_by, next_up_to}
 use Rattle.replies.specs.declared.fault.Fault.{Fault}
-use Rattle.replies.specs.declared.fault.Fault.TheVariants.{NotText, UnknownWord, NotYet, OutOfRange}
+use Rattle.replies.specs.declared.fault.Fault.TheVariants.{NotText, NotYet, OutOfRange}
 use Rattle.journal.specs.declared.line.Declaration.TheVariants as declaration
 use Rattle.journal.specs.declared.line.Layout.{Layout}
 use Rattle.journal.specs.declared.line.Layout.TheVariants as layout
@@ -28,21 +27,25 @@ Form X = List (List ℕ) → Result X Fault
 abbrev pub exact : {X : Type 0} → ℕ → Form X → Form X
 exact n f ws = then (counted n ws) (λ _. f ws)
 
--- a number, and then what f says
-abbrev pub signed : {X : Type 0} → (ℤ → Form X) → Form X
-signed f ws = then (next_number ws) (λ n. f n (others ws))
+-- the next word, read by g, and then what f says
+abbrev pub taken : {X Y : Type 0} → (List ℕ → Result X Fault) → (X → Form Y) → Form Y
+taken g f ws = then (next_by g ws) (λ x. f x (drop 1 ws))
 
--- an unsigned number, and then what f says
+-- a number
+abbrev pub signed : {X : Type 0} → (ℤ → Form X) → Form X
+signed = taken numeral
+
+-- an unsigned number
 abbrev pub index : {X : Type 0} → (ℕ → Form X) → Form X
-index f ws = then (next_unsigned ws) (λ n. f n (others ws))
+index = taken unsigned_numeral
+
+-- a word of a table
+abbrev pub kind_in : {X Y : Type 0} → List (List ℕ × X) → (X → Form Y) → Form Y
+kind_in rows = taken (name_in rows)
 
 -- a number from 0 to most, and then what f says
 abbrev pub up_to : {X : Type 0} → ℕ → (ℕ → Form X) → Form X
-up_to most f ws = then (next_up_to most ws) (λ n. f n (others ws))
-
--- a word of a table, and then what f says
-abbrev pub kind_in : {X Y : Type 0} → List (List ℕ × X) → (X → Form Y) → Form Y
-kind_in rows f ws = then (next_named rows ws) (λ x. f x (others ws))
+up_to most f ws = then (next_up_to most ws) (λ n. f n (drop 1 ws))
 
 -- all is said
 abbrev pub says : {X : Type 0} → X → Form X
@@ -96,7 +99,7 @@ form_of verb.Later = not_yet
 -- a line's words
 abbrev pub read_words : Form Line
 read_words [] = Ok Blank
-read_words (w ∷ ws) = then (ok_or (named verbs w) UnknownWord) (λ v. form_of v ws)
+read_words (w ∷ ws) = then (name_in verbs w) (λ v. form_of v ws)
 
 -- a line's bytes
 abbrev pub read_line : List ℕ → Result Line Fault

@@ -1,6 +1,8 @@
 -- The words that name something.
-use Rattle.std.specs.Prelude.{ℕ, cond, List, [], ◌∷◌, Some, None, codes, Option}
+use Rattle.std.specs.Prelude.{ℕ, List, [], ◌∷◌, codes, Option, Result, option_map, ok_or, find}
 use Rattle.std.specs.Str.{bytes_eq}
+use Rattle.replies.specs.declared.fault.Fault.{Fault}
+use Rattle.replies.specs.declared.fault.Fault.TheVariants.{UnknownWord}
 use Rattle.terms.specs.declared.kind.Kind.{Kind}
 use Rattle.terms.specs.declared.kind.Kind.TheVariants.{Future, Call, Put}
 use Rattle.terms.specs.declared.kind.Underlying.{Underlying}
@@ -14,8 +16,11 @@ use Rattle.journal.specs.declared.names.Verb.TheVariants as verb
 
 -- what a table has for a word
 abbrev pub named : {X : Type 0} → List (List ℕ × X) → List ℕ → Option X
-named [] w = None
-named (row ∷ rows) w = cond (bytes_eq w row.0) (Some row.1) (named rows w)
+named rows w = option_map (λ row. row.1) (find (λ row. bytes_eq w row.0) rows)
+
+-- the same, where a word that the table lacks is a fault
+abbrev pub name_in : {X : Type 0} → List (List ℕ × X) → List ℕ → Result X Fault
+name_in rows w = ok_or (named rows w) UnknownWord
 
 -- the first word of a line
 abbrev pub verbs : List (List ℕ × Verb)

@@ -1,16 +1,17 @@
 // What a line of the journal says.
 use terms::command::Command;
 use terms::kind::{Contract, Underlying};
+use terms::limits::Limits;
 
 // How a book keeps its places.
-#[derive(Clone, Copy)]
+#[derive(Clone, Copy, PartialEq, Eq, Debug)]
 pub enum Layout {
     Grid,
     List,
 }
 
 // The book to open.
-#[derive(Clone, Copy)]
+#[derive(Clone, Copy, PartialEq, Eq, Debug)]
 pub struct Book {
     pub layout: Layout,
     pub entities: usize,
@@ -18,14 +19,7 @@ pub struct Book {
     pub places: usize,
 }
 
-// The two opening limits, in paise.
-#[derive(Clone, Copy)]
-pub struct Limits {
-    pub net: u64,
-    pub gross: u64,
-}
-
-#[derive(Clone, Copy)]
+#[derive(Clone, Copy, PartialEq, Eq, Debug)]
 pub enum Declaration {
     Book(Book),
     Underlying(Underlying),
@@ -34,12 +28,12 @@ pub enum Declaration {
     Open,
 }
 
-#[derive(Clone, Copy)]
+#[derive(Clone, Copy, PartialEq, Eq, Debug)]
 pub enum Question {
     Quantity { entity: usize, contract: usize },
 }
 
-#[derive(Clone, Copy)]
+#[derive(Clone, Copy, PartialEq, Eq, Debug)]
 pub enum Line {
     // No word.
     Blank,

@@ -1,13 +1,15 @@
 // The words that name something. specs/Names.antt has the tables.
-ghost use Rattle.std.specs.Prelude.{◌≡◌, ℕ, List};
-ghost use Rattle.journal.specs.Names.{named, verbs, topics, layouts, underlyings, kinds};
+ghost use Rattle.std.specs.Prelude.{◌≡◌, map};
+ghost use Rattle.journal.specs.Names.{name_in, verbs, topics, layouts, underlyings, kinds};
 
 use super::line::Layout;
+use super::taken::Field;
+use replies::fault::Fault;
 use terms::kind::{Kind, Underlying};
 use text::words::is;
 
 // The first word of a line.
-#[derive(Clone, Copy)]
+#[derive(Clone, Copy, PartialEq, Eq, Debug)]
 pub(crate) enum Verb {
     Book,
     Underlying,
@@ -23,123 +25,102 @@ pub(crate) enum Verb {
 }
 
 // What is asked for.
-#[derive(Clone, Copy)]
+#[derive(Clone, Copy, PartialEq, Eq, Debug)]
 pub(crate) enum Topic {
     Quantity,
     // A word of the format that is not yet available.
     Later,
 }
 
-// What words name.
-pub(crate) trait Named {
-    ghost rows: { List (List ℕ × Self) };
+const VERBS: [(&str, Verb); 17] = [
+    ("book", Verb::Book),
+    ("underlying", Verb::Underlying),
+    ("contract", Verb::Contract),
+    ("limits", Verb::Limits),
+    ("open", Verb::Open),
+    ("post", Verb::Post),
+    ("entry", Verb::Entry),
+    ("confirm", Verb::Confirm),
+    ("ask", Verb::Ask),
+    ("snapshot", Verb::Later),
+    ("cure", Verb::Later),
+    ("cash", Verb::Later),
+    ("holding", Verb::Later),
+    ("settle", Verb::Later),
+    ("report", Verb::Later),
+    ("limit", Verb::Later),
+    ("close", Verb::Later),
+];
 
-    fn from_word(word: &[u8]) -> Option<Self>
-    where
-        Self: Sized,
-        ensures { result ≡ named rows word.now };
+const TOPICS: [(&str, Topic); 9] = [
+    ("quantity", Topic::Quantity),
+    ("base", Topic::Later),
+    ("limit", Topic::Later),
+    ("ban", Topic::Later),
+    ("violated", Topic::Later),
+    ("charge", Topic::Later),
+    ("mark", Topic::Later),
+    ("reading", Topic::Later),
+    ("notional", Topic::Later),
+];
+
+const LAYOUTS: [(&str, Layout); 2] = [("grid", Layout::Grid), ("list", Layout::List)];
+
+const UNDERLYINGS: [(&str, Underlying); 2] = [
+    ("index", Underlying::Index),
+    ("stock", Underlying::Stock),
+];
+
+const KINDS: [(&str, Kind); 3] = [
+    ("future", Kind::Future),
+    ("call", Kind::Call),
+    ("put", Kind::Put),
+];
+
+// What a table has for a word.
+fn named<T: Copy>(table: &[(&str, T)], word: &[u8]) -> Result<T, Fault>
+    ensures { result ≡ name_in (map (λ row. (row.0.now, row.1)) table.now) word.now }
+{
+    let row = table.iter().find(|row| is(word, row.0));
+    row.map(|row| row.1).ok_or(Fault::UnknownWord)
 }
 
-impl Named for Verb {
-    ghost rows = { verbs };
+impl Field for Verb {
+    ghost field = { name_in verbs };
 
-    fn from_word(word: &[u8]) -> Option<Verb> {
-        if is(word, "book") {
-            Some(Verb::Book)
-        } else if is(word, "underlying") {
-            Some(Verb::Underlying)
-        } else if is(word, "contract") {
-            Some(Verb::Contract)
-        } else if is(word, "limits") {
-            Some(Verb::Limits)
-        } else if is(word, "open") {
-            Some(Verb::Open)
-        } else if is(word, "post") {
-            Some(Verb::Post)
-        } else if is(word, "entry") {
-            Some(Verb::Entry)
-        } else if is(word, "confirm") {
-            Some(Verb::Confirm)
-        } else if is(word, "ask") {
-            Some(Verb::Ask)
-        } else if is(word, "snapshot")
-            || is(word, "cure")
-            || is(word, "cash")
-            || is(word, "holding")
-            || is(word, "settle")
-            || is(word, "report")
-            || is(word, "limit")
-            || is(word, "close")
-        {
-            Some(Verb::Later)
-        } else {
-            None
-        }
+    fn of_word(word: &[u8]) -> Result<Verb, Fault> {
+        named(&VERBS, word)
     }
 }
 
-impl Named for Topic {
-    ghost rows = { topics };
+impl Field for Topic {
+    ghost field = { name_in topics };
 
-    fn from_word(word: &[u8]) -> Option<Topic> {
-        if is(word, "quantity") {
-            Some(Topic::Quantity)
-        } else if is(word, "base")
-            || is(word, "limit")
-            || is(word, "ban")
-            || is(word, "violated")
-            || is(word, "charge")
-            || is(word, "mark")
-            || is(word, "reading")
-            || is(word, "notional")
-        {
-            Some(Topic::Later)
-        } else {
-            None
-        }
+    fn of_word(word: &[u8]) -> Result<Topic, Fault> {
+        named(&TOPICS, word)
     }
 }
 
-impl Named for Layout {
-    ghost rows = { layouts };
+impl Field for Layout {
+    ghost field = { name_in layouts };
 
-    fn from_word(word: &[u8]) -> Option<Layout> {
-        if is(word, "grid") {
-            Some(Layout::Grid)
-        } else if is(word, "list") {
-            Some(Layout::List)
-        } else {
-            None
-        }
+    fn of_word(word: &[u8]) -> Result<Layout, Fault> {
+        named(&LAYOUTS, word)
     }
 }
 
-impl Named for Underlying {
-    ghost rows = { underlyings };
+impl Field for Underlying {
+    ghost field = { name_in underlyings };
 
-    fn from_word(word: &[u8]) -> Option<Underlying> {
-        if is(word, "index") {
-            Some(Underlying::Index)
-        } else if is(word, "stock") {
-            Some(Underlying::Stock)
-        } else {
-            None
-        }
+    fn of_word(word: &[u8]) -> Result<Underlying, Fault> {
+        named(&UNDERLYINGS, word)
     }
 }
 
-impl Named for Kind {
-    ghost rows = { kinds };
+impl Field for Kind {
+    ghost field = { name_in kinds };
 
-    fn from_word(word: &[u8]) -> Option<Kind> {
-        if is(word, "future") {
-            Some(Kind::Future)
-        } else if is(word, "call") {
-            Some(Kind::Call)
-        } else if is(word, "put") {
-            Some(Kind::Put)
-        } else {
-            None
-        }
+    fn of_word(word: &[u8]) -> Result<Kind, Fault> {
+        named(&KINDS, word)
     }
 }

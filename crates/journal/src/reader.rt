@@ -4,12 +4,13 @@ ghost use Rattle.journal.specs.Forms.{full, placed, book_form, ask_form, form_of
 ghost use Rattle.text.specs.Words.{to_come};
 
 use super::bounds::{BOOK_PLACES, BOOK_SIDE};
-use super::line::{Book, Declaration, Layout, Limits, Line, Question};
+use super::line::{Book, Declaration, Layout, Line, Question};
 use super::names::*;
 use super::taken::*;
 use replies::fault::Fault;
 use terms::command::{Command, Trade};
 use terms::kind::Contract;
+use terms::limits::Limits;
 use text::words::{Words, is_text};
 
 // ENTITIES CONTRACTS PLACES
@@ -51,7 +52,7 @@ fn sized_book(layout: Layout, words: Words<'_>) -> Result<Line, Fault>
 {
     match layout {
         Layout::Grid => {
-            if words.count() == 2 {
+            if words.len() == 2 {
                 full_book(layout, words)
             } else {
                 placed_book(layout, words)
@@ -64,7 +65,7 @@ fn sized_book(layout: Layout, words: Words<'_>) -> Result<Line, Fault>
 fn book(mut words: Words<'_>) -> Result<Line, Fault>
     ensures { result ≡ form_of Verb.Book (to_come words.entry) }
 {
-    let layout = next_named(&mut words)?;
+    let layout = next(&mut words)?;
     sized_book(layout, words)
 }
 
@@ -72,15 +73,15 @@ fn underlying(mut words: Words<'_>) -> Result<Line, Fault>
     ensures { result ≡ form_of Verb.Underlying (to_come words.entry) }
 {
     exactly(words, 1)?;
-    Ok(Line::Declare(Declaration::Underlying(next_named(&mut words)?)))
+    Ok(Line::Declare(Declaration::Underlying(next(&mut words)?)))
 }
 
 fn contract(mut words: Words<'_>) -> Result<Line, Fault>
     ensures { result ≡ form_of Verb.Contract (to_come words.entry) }
 {
     exactly(words, 2)?;
-    let underlying = next_unsigned(&mut words)?;
-    let kind = next_named(&mut words)?;
+    let underlying = next(&mut words)?;
+    let kind = next(&mut words)?;
     Ok(Line::Declare(Declaration::Contract(Contract { underlying, kind })))
 }
 
@@ -88,8 +89,8 @@ fn limits(mut words: Words<'_>) -> Result<Line, Fault>
     ensures { result ≡ form_of Verb.Limits (to_come words.entry) }
 {
     exactly(words, 2)?;
-    let net = next_unsigned(&mut words)? as u64;
-    let gross = next_unsigned(&mut words)? as u64;
+    let net = next(&mut words)?;
+    let gross = next(&mut words)?;
     Ok(Line::Declare(Declaration::Limits(Limits { net, gross })))
 }
 
@@ -104,9 +105,9 @@ fn post(mut words: Words<'_>) -> Result<Line, Fault>
     ensures { result ≡ form_of Verb.Post (to_come words.entry) }
 {
     exactly(words, 3)?;
-    let entity = next_unsigned(&mut words)?;
-    let contract = next_unsigned(&mut words)?;
-    let change = next_number(&mut words)?;
+    let entity = next(&mut words)?;
+    let contract = next(&mut words)?;
+    let change = next(&mut words)?;
     Ok(Line::Call(Command::Post {
         entity,
         contract,
@@ -118,11 +119,11 @@ fn entry(mut words: Words<'_>) -> Result<Line, Fault>
     ensures { result ≡ form_of Verb.Entry (to_come words.entry) }
 {
     exactly(words, 5)?;
-    let ticket = next_unsigned(&mut words)?;
-    let member = next_unsigned(&mut words)?;
-    let participant = next_unsigned(&mut words)?;
-    let contract = next_unsigned(&mut words)?;
-    let change = next_number(&mut words)?;
+    let ticket = next(&mut words)?;
+    let member = next(&mut words)?;
+    let participant = next(&mut words)?;
+    let contract = next(&mut words)?;
+    let change = next(&mut words)?;
     let trade = Trade {
         member,
         participant,
@@ -136,7 +137,7 @@ fn confirm(mut words: Words<'_>) -> Result<Line, Fault>
     ensures { result ≡ form_of Verb.Confirm (to_come words.entry) }
 {
     exactly(words, 1)?;
-    let ticket = next_unsigned(&mut words)?;
+    let ticket = next(&mut words)?;
     Ok(Line::Call(Command::Confirm { ticket }))
 }
 
@@ -144,20 +145,21 @@ fn quantity(mut words: Words<'_>) -> Result<Line, Fault>
     ensures { result ≡ ask_form Topic.Quantity (to_come words.entry) }
 {
     exactly(words, 2)?;
-    let entity = next_unsigned(&mut words)?;
-    let contract = next_unsigned(&mut words)?;
+    let entity = next(&mut words)?;
+    let contract = next(&mut words)?;
     Ok(Line::Ask(Question::Quantity { entity, contract }))
 }
 
 fn ask(mut words: Words<'_>) -> Result<Line, Fault>
     ensures { result ≡ form_of Verb.Ask (to_come words.entry) }
 {
-    match next_named::<Topic>(&mut words)? {
+    match next(&mut words)? {
         Topic::Quantity => quantity(words),
         Topic::Later => Err(Fault::NotYet),
     }
 }
 
+// A match, and no table of functions beside the names: the compiler sees here that each verb has its form.
 fn form(verb: Verb, words: Words<'_>) -> Result<Line, Fault>
     ensures { result ≡ form_of verb (to_come words.entry) }
 {
@@ -178,11 +180,10 @@ fn form(verb: Verb, words: Words<'_>) -> Result<Line, Fault>
 fn read_words(mut words: Words<'_>) -> Result<Line, Fault>
     ensures { result ≡ read_words (to_come words.entry) }
 {
-    let Some(first) = words.next_word() else {
-        return Ok(Line::Blank);
-    };
-    let verb = Verb::from_word(first).ok_or(Fault::UnknownWord)?;
-    form(verb, words)
+    match words.next() {
+        Some(first) => form(Verb::of_word(first)?, words),
+        None => Ok(Line::Blank),
+    }
 }
 
 // What the line says, or the first fault that it has.
