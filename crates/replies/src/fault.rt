@@ -2,9 +2,10 @@
 ghost use Rattle.std.specs.Prelude.{◌≡◌, Some};
 ghost use Rattle.replies.specs.Faults.{reason_of};
 
+use std::error::Error;
 use std::fmt;
 
-#[derive(Clone, Copy)]
+#[derive(Clone, Copy, PartialEq, Eq, Debug)]
 pub enum Fault {
     // The bytes are not UTF-8.
     NotText,
@@ -58,3 +59,5 @@ impl fmt::Display for Fault {
         f.write_str(self.reason())
     }
 }
+
+impl Error for Fault {}

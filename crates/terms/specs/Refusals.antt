@@ -1,5 +1,5 @@
 -- The refusal table: each cause with its number and its name. The order of the causes is in the model, call by call.
-use Rattle.std.specs.Prelude.{ℕ, List, codes}
+use Rattle.std.specs.Prelude.{ℕ, List, [], ◌++◌, codes, decimal}
 use Rattle.terms.specs.declared.refusal.Refusal.{Refusal}
 use Rattle.terms.specs.declared.refusal.Refusal.TheVariants.{Closed, Underlying, Kind, Unset, Turn, Time, Price, Delta, Value, ShortDay, Input, Ticket, Pair, Size, Full}
 
@@ -36,3 +36,13 @@ name_of Ticket = codes "TICKET"
 name_of Pair = codes "PAIR"
 name_of Size = codes "SIZE"
 name_of Full = codes "FULL"
+
+-- whom a cause names
+abbrev pub whom_of : Refusal → List ℕ
+whom_of (Delta contract entity) = codes " contract " ++ (decimal contract ++ (codes " entity " ++ decimal entity))
+whom_of (Value entity) = codes " entity " ++ decimal entity
+whom_of other = []
+
+-- what is printed of a cause: its number, its name and whom it names
+abbrev pub text_of : Refusal → List ℕ
+text_of refusal = decimal (number_of refusal) ++ (codes " " ++ (name_of refusal ++ whom_of refusal))

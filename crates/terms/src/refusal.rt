@@ -1,6 +1,9 @@
-// Why a call is declined. specs/Refusals.antt has each cause's number and name.
-ghost use Rattle.std.specs.Prelude.{◌≡◌};
-ghost use Rattle.terms.specs.Refusals.{number_of, name_of};
+// Why a call is declined. specs/Refusals.antt has each cause's number and name, and what is printed of it.
+ghost use Rattle.std.specs.Prelude.{◌≡◌, Some};
+ghost use Rattle.terms.specs.Refusals.{number_of, name_of, text_of};
+
+use std::error::Error;
+use std::fmt;
 
 #[derive(Clone, Copy, PartialEq, Eq, Debug)]
 pub enum Refusal {
@@ -24,7 +27,7 @@ pub enum Refusal {
 }
 
 impl Refusal {
-    // The number that is returned for this cause.
+    // The number that is returned for this cause. A method, since `u8::from` would not say that it is the table's number.
     pub fn number(self) -> u8
         ensures { result ≡ number_of self }
     {
@@ -76,3 +79,22 @@ impl Refusal {
         }
     }
 }
+
+// The cause's number, its name and whom it names.
+impl fmt::Display for Refusal {
+    ghost output = { λ refusal. Some (text_of refusal) };
+
+    fn fmt<W: fmt::Write>(&self, f: &mut fmt::Formatter<W>) -> fmt::Result {
+        let number = self.number();
+        let name = self.name();
+        match *self {
+            Refusal::Delta { contract, entity } => {
+                write!(f, "{number} {name} contract {contract} entity {entity}")
+            }
+            Refusal::Value { entity } => write!(f, "{number} {name} entity {entity}"),
+            _ => write!(f, "{number} {name}"),
+        }
+    }
+}
+
+impl Error for Refusal {}
