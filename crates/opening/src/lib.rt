@@ -2,5 +2,6 @@
 #![tactic(auto)]
 
 pub mod bounds;
+pub mod opening;
 mod roster;
 pub mod setup;

@@ -1,12 +1,16 @@
 // What is declared before the monitor is open. specs/Sheets.antt has the rules.
-ghost use Rattle.std.specs.Prelude.{◌≡◌, is_ok, if◌then◌else◌, Some};
-ghost use Rattle.opening.specs.Sheets.{sheet_of, empty_sheet, first, ready_to_open, answered, noted, readiness};
+ghost use Rattle.std.specs.Prelude.{◌≡◌, ◌≤◌, length, is_ok, is_some, if◌then◌else◌, Some};
+ghost use Rattle.opening.specs.Bounds.{declared_underlyings, declared_contracts};
+ghost use Rattle.opening.specs.Sheets.{Sheet, empty_sheet, first, ready_to_open, answered, noted, readiness};
 
 use super::bounds::{DECLARED_CONTRACTS, DECLARED_UNDERLYINGS};
+use super::opening::Opening;
 use super::roster::Roster;
-use journal::line::{Book, Declaration, Limits};
+use journal::line::{Book, Declaration};
 use replies::fault::Fault;
+use std::marker::Model;
 use terms::kind::{Contract, Kind, Underlying};
+use terms::limits::Limits;
 
 #[derive(Drop)]
 pub struct Setup {
@@ -14,10 +18,17 @@ pub struct Setup {
     underlyings: Roster<Underlying, DECLARED_UNDERLYINGS>,
     contracts: Roster<Contract, DECLARED_CONTRACTS>,
     limits: Option<Limits>,
-    opened: bool,
+    opened: Option<Opening>,
 }
 
-// Fills the place, once.
+// The sheet that it holds.
+impl Model for Setup {
+    ghost Value = { Sheet };
+
+    ghost view = { λ s. record { book = s.book; underlyings = s.underlyings; contracts = s.contracts; limits = s.limits; opened = s.opened } };
+}
+
+// Fills the place, once. A test: no method of `Option` tells apart that it is filled already.
 fn once<T: Drop>(place: &mut Option<T>, value: T) -> Result<(), Fault>
     ensures answer { result ≡ first place.old }
     ensures after { place.new ≡ (if is_ok result then Some value else place.old) }
@@ -32,7 +43,7 @@ fn once<T: Drop>(place: &mut Option<T>, value: T) -> Result<(), Fault>
 impl Setup {
     // Nothing is declared.
     pub fn new() -> Setup
-        ensures { sheet_of result ≡ empty_sheet }
+        ensures { result ≡ empty_sheet }
     {
         let filler = Contract {
             underlying: 0,
@@ -43,27 +54,26 @@ impl Setup {
             underlyings: Roster::new(Underlying::Index),
             contracts: Roster::new(filler),
             limits: None,
-            opened: false,
+            opened: None,
         }
     }
 
     fn open(&mut self) -> Result<(), Fault>
-        ensures answer { result ≡ ready_to_open (sheet_of self.old) }
-        ensures after { sheet_of self.new ≡ (if is_ok result then noted Declaration.Open (sheet_of self.old) else sheet_of self.old) }
+        ensures answer { result ≡ ready_to_open self.old }
+        ensures after { self.new ≡ (if is_ok result then noted Declaration.Open self.old else self.old) }
     {
-        if self.book.is_none() || self.limits.is_none() {
-            return Err(Fault::NothingToOpen);
-        }
-        self.opened = true;
+        let book = self.book.ok_or(Fault::NothingToOpen)?;
+        let limits = self.limits.ok_or(Fault::NothingToOpen)?;
+        self.opened = Some(Opening { book, limits });
         Ok(())
     }
 
     // Notes one more declaration; a declined one changes nothing.
     pub fn declare(&mut self, declaration: Declaration) -> Result<(), Fault>
-        ensures answer { result ≡ answered (sheet_of self.old) declaration }
-        ensures after { sheet_of self.new ≡ (if is_ok result then noted declaration (sheet_of self.old) else sheet_of self.old) }
+        ensures answer { result ≡ answered self.old declaration }
+        ensures after { self.new ≡ (if is_ok result then noted declaration self.old else self.old) }
     {
-        if self.opened {
+        if self.is_open() {
             return Err(Fault::AfterOpen);
         }
         match declaration {
@@ -77,37 +87,46 @@ impl Setup {
 
     // The book, once it is declared.
     pub fn book(&self) -> Option<Book>
-        ensures { result ≡ (sheet_of self.now).book }
+        ensures { result ≡ self.now.book }
     {
         self.book
     }
 
     // The underlyings, in the order of their numbers.
     pub fn underlyings(&self) -> &[Underlying]
-        ensures { result.now ≡ (sheet_of self.now).underlyings }
+        ensures value { result.now ≡ self.now.underlyings }
+        ensures most { length result.now ≤ declared_underlyings }
     {
         self.underlyings.as_slice()
     }
 
     // The contracts, in the order of their numbers.
     pub fn contracts(&self) -> &[Contract]
-        ensures { result.now ≡ (sheet_of self.now).contracts }
+        ensures value { result.now ≡ self.now.contracts }
+        ensures most { length result.now ≤ declared_contracts }
     {
         self.contracts.as_slice()
     }
 
     // The limits, once they are declared.
     pub fn limits(&self) -> Option<Limits>
-        ensures { result ≡ (sheet_of self.now).limits }
+        ensures { result ≡ self.now.limits }
     {
         self.limits
     }
 
+    // What the monitor is opened with, once `open` was accepted.
+    pub fn opening(&self) -> Option<Opening>
+        ensures { result ≡ self.now.opened }
+    {
+        self.opened
+    }
+
     // Whether a call or a question may come.
     pub fn ready(&self) -> Result<(), Fault>
-        ensures { result ≡ readiness (sheet_of self.now) }
+        ensures { result ≡ readiness self.now }
     {
-        if !self.opened {
+        if !self.is_open() {
             return Err(Fault::NotOpened);
         }
         Ok(())
@@ -115,8 +134,8 @@ impl Setup {
 
     // Whether `open` was accepted.
     pub fn is_open(&self) -> bool
-        ensures { result ≡ (sheet_of self.now).opened }
+        ensures { result ≡ is_some self.now.opened }
     {
-        self.ready().is_ok()
+        self.opening().is_some()
     }
 }
