@@ -1,12 +1,9 @@
 -- What a rotation of a part leaves: a row put in or taken out.
-use Rattle.std.proofs.Common.{◌≡◌, ℕ, suc, ◌+◌, ◌-◌, ◌<◌, ◌≤◌, ◌≢◌, List, [], ◌∷◌, ◌++◌, length, get_or, take, drop, set, sym, refl, ap, ◌∙◌, ap₂, ⊎_elim, add-one, arith}
+use Rattle.std.proofs.Common.{◌≡◌, ℕ, suc, ◌+◌, ◌-◌, ◌<◌, ◌≤◌, List, [], ◌∷◌, ◌++◌, length, take, drop, set, sym, refl, ap, ◌∙◌, ap₂, add-one, arith}
 use borrow.Rule.Slice.PartMut.{put_mid}
-use Rattle.std.specs.List.Sorted.{IsStrictlyIncreasing}
 use Rattle.std.specs.List.{insert, remove}
-use Rattle.std.proofs.lemmas.Map.Keys.{sorted_from_strictly_increasing, below_from_sorted}
 use Rattle.std.proofs.lemmas.Slice.{between_is, take-put_mid}
-use Rattle.std.proofs.lemmas.List.{take_more_set, drop-append-le, length-take-le, length-drop, length_push, length-append, length-set, drop_at, take_at, take-take, take-set-le, append_assoc, drop-drop, get_or-map, length-map}
-use Rattle.std.proofs.lemmas.Bool.{cases_eq}
+use Rattle.std.proofs.lemmas.List.{take_more_set, drop-append-le, length-take-le, length-drop, length_push, length-append, length-set, drop_at, take_at, take-take, take-set-le, append_assoc, drop-drop}
 
 module _ {X : Type 0} (xs : List X) (len at : ℕ) where
   -- a row is written behind the others, and the part from `at` on is rotated up by one

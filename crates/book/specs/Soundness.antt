@@ -1,6 +1,6 @@
 -- Nothing to believe here, only lemmas: every grid is sound, and every list is.
-use Rattle.std.specs.Prelude.{◌≡◌, ℕ, zero, suc, ◌+◌, ◌*◌, ◌<◌, ◌≤◌, Bool, true, false, cond, not, ◌&&◌, T, List, ℤ, pos, Some, None, Option, nat_lt, slice_index_or, unsigned_abs}
-use Rattle.std.proofs.Common.{subst, suc-mul, arith, leb→le, length-take}
+use Rattle.std.specs.Prelude.{ℕ, zero, suc, ◌+◌, ◌*◌, ◌<◌, ◌≤◌, Bool, true, false, cond, not, ◌&&◌, T, List, ℤ, pos, Some, None, Option, nat_lt, slice_index_or, unsigned_abs}
+use Rattle.std.proofs.Common.{subst, suc-mul, arith, leb→le}
 use Rattle.std.proofs.lemmas.Nat.{mul-add-lt}
 use Rattle.std.proofs.lemmas.Bool.{cond-false, cond_both, and_parts, ltb-true}
 use Rattle.terms.specs.Bounds.{quantity_bound}

@@ -1,5 +1,4 @@
-use Rattle.std.proofs.Common.{ℕ, length, ap}
-use Rattle.book.specs.Tables.{Table}
+use Rattle.std.proofs.Common.{length}
 use Rattle.book.proofs.Rows.{empty_mapped}
 use Rattle.book.proofs.register.Register.new.Goals as goal
 

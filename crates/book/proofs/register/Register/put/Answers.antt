@@ -1,7 +1,7 @@
 use Rattle.std.proofs.Common.{◌<◌, length, Some, Ok, ap, ◌∙◌, arith}
 use Rattle.book.specs.Places.{table}
 use Rattle.book.specs.Tables.{putted}
-use Rattle.book.proofs.Tabled.{Leaves, known_reply, key_is, put_over, full, new_reply, put_in}
+use Rattle.book.proofs.Tabled.{known_reply, key_is, put_over, full, new_reply, put_in}
 use Rattle.book.proofs.register.Register.put.Goals as goal
 
 pub invariant_of-self : goal.invariant_of-self

@@ -1,6 +1,6 @@
 use Rattle.std.proofs.Common.{sym, ◌∙◌}
 use Rattle.book.proofs.Rows.{found, not_found}
-use Rattle.book.proofs.Tabled.{Leaves, known, unknown, none_out, take_out}
+use Rattle.book.proofs.Tabled.{known, unknown, none_out, take_out}
 use Rattle.book.proofs.register.Register.remove.Goals as goal
 
 pub returns-in_err-at : goal.returns-in_err-at
