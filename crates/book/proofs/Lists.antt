@@ -194,109 +194,128 @@ module _ (e c : ℕ) (t : Table ℤ) (s : Stored e c t) (i j key : ℕ) (p : Som
   unfolding listed
   in_listed q = λ n. record { entities = e; contracts = c; capacity = t.capacity; at = λ k o. (ap (λ f. spread e c f k o) (gets_grown t key q) ∙ spread_put e c (value_of t) i j key p (Some q) k o) n }
 
-  -- the sum as it is computed of the old quantity a and the change z
-  module _ (a z : ℤ) (fa : SFits w64 a) (fz : SFits w64 z) (old : a ≡ amount (value_of t key)) where
-    sum_of_is : (x : Result ℤ Refusal) → x ≡ sum_of (to_z w64 (of_z w64 a)) (to_z w64 (of_z w64 z)) → x ≡ sum_of (book.at i j) z
-    sum_of_is x h = heard a z fa fz x h ∙ ap (λ y. sum_of y z) (old ∙ old_is)
+-- what stands once the old quantity a of a pair has been read, to which z is added
+pub record Asked (e c : ℕ) (t : Table ℤ) (i j key : ℕ) (a z : ℤ) : Type 0 where
+  pub stored : Stored e c t
+  pub placed : Some key ≡ place_of e c i j
+  pub read : a ≡ amount (value_of t key)
+  pub fits_read : SFits w64 a
+  pub fits_change : SFits w64 z
 
-    pub over : (x : Refusal) → Err x ≡ sum_of (to_z w64 (of_z w64 a)) (to_z w64 (of_z w64 z)) → Err x ≡ reply book i j z
-    over x h =
-        let s = summed_err _ z x (sum_of_is (Err x) h) in
-        ap Err s.1 ∙ sym (reply_size book i j z is_inside s.0)
+pub asked : {e c : ℕ} {t : Table ℤ} {i j key : ℕ} {a z : ℤ} → Stored e c t → Some key ≡ place_of e c i j → a ≡ amount (value_of t key) → SFits w64 a → SFits w64 z → Asked e c t i j key a z
+asked s p r f g = record { stored = s; placed = p; read = r; fits_read = f; fits_change = g }
 
-    module _ (q : ℤ) (h : Ok q ≡ sum_of (to_z w64 (of_z w64 a)) (to_z w64 (of_z w64 z))) where
-      facts : (small (book.at i j +ℤ z) ≡ true) × (q ≡ book.at i j +ℤ z)
-      facts = summed_ok (book.at i j) z q (sum_of_is (Ok q) h)
+module _ {e c : ℕ} {t : Table ℤ} {i j key : ℕ} {a z : ℤ} (k : Asked e c t i j key a z) where
+  abbrev held : Holding
+  held = listed e c t
 
-      is_small : small q ≡ true
-      is_small = ap small facts.1 ∙ facts.0
+  old : amount (value_of t key) ≡ held.at i j
+  old = old_is e c t k.stored i j key k.placed
 
-      kept : to_z w64 (of_z w64 q) ≡ q
-      kept = stored_is q (leb-true (nat_abs q) quantity_bound is_small)
+  held_inside : inside held i j ≡ true
+  held_inside = is_inside e c t k.stored i j key k.placed
 
-      done : blocked book i j z ≡ false → Ok q ≡ reply book i j z
-      done k = ap Ok facts.1 ∙ sym (reply_done book i j z is_inside facts.0 k)
+  sum_of_is : (x : Result ℤ Refusal) → x ≡ sum_of (to_z w64 (of_z w64 a)) (to_z w64 (of_z w64 z)) → x ≡ sum_of (held.at i j) z
+  sum_of_is x h = heard a z k.fits_read k.fits_change x h ∙ ap (λ y. sum_of y z) (k.read ∙ old)
 
-      -- it is zero
-      module _ (nought : of_z w64 q ≡ 0) where
-        is_nought : q ≡ pos 0
-        is_nought = sym kept ∙ ap (to_z w64) nought
+  pub over : (x : Refusal) → Err x ≡ sum_of (to_z w64 (of_z w64 a)) (to_z w64 (of_z w64 z)) → Err x ≡ reply held i j z
+  over x h =
+      let s = summed_err _ z x (sum_of_is (Err x) h) in
+      ap Err s.1 ∙ sym (reply_size held i j z held_inside s.0)
 
-        zero_free : blocked book i j z ≡ false
-        unfolding blocked
-        zero_free =
+  module _ (q : ℤ) (h : Ok q ≡ sum_of (to_z w64 (of_z w64 a)) (to_z w64 (of_z w64 z))) where
+    facts : (small (held.at i j +ℤ z) ≡ true) × (q ≡ held.at i j +ℤ z)
+    facts = summed_ok (held.at i j) z q (sum_of_is (Ok q) h)
+
+    is_small : small q ≡ true
+    is_small = ap small facts.1 ∙ facts.0
+
+    kept : to_z w64 (of_z w64 q) ≡ q
+    kept = stored_is q (leb-true (nat_abs q) quantity_bound is_small)
+
+    done : blocked held i j z ≡ false → Ok q ≡ reply held i j z
+    done free = ap Ok facts.1 ∙ sym (reply_done held i j z held_inside facts.0 free)
+
+    -- it is zero
+    module _ (nought : of_z w64 q ≡ 0) where
+      is_nought : q ≡ pos 0
+      is_nought = sym kept ∙ ap (to_z w64) nought
+
+      zero_free : blocked held i j z ≡ false
+      unfolding blocked
+      zero_free =
+          ⊎_elim
+          (λ (u : is_zero (held.at i j) ≡ true). and_left _ _ (and_right _ (not (is_zero z)) (still (held.at i j) u facts.1 is_nought)))
+          (λ (u : is_zero (held.at i j) ≡ false). and_left _ _ (and_left (is_zero (held.at i j)) _ u))
+          (cases_Bool (is_zero (held.at i j)))
+        where
+          still : (x : ℤ) → is_zero x ≡ true → q ≡ x +ℤ z → q ≡ pos 0 → not (is_zero z) ≡ false
+          still x u s n =
+              let f = eqb-true (nat_abs x) 0 u in
+              ap not (eq-eqb (nat_abs z) 0 (omega (arith, ints)))
+
+      pub zero_answer : Ok (pos 0) ≡ reply held i j z
+      zero_answer = ap Ok (sym is_nought) ∙ done zero_free
+
+      pub zero_state : (t' : Table ℤ) → t' ≡ removed t key → listed e c t' ≡ posted held i j z
+      zero_state t' s =
+          ap (listed e c) s ∙ (out_listed e c t k.stored i j key k.placed ∙ sym (posted_done held i j z (pos 0) (sym zero_answer)))
+
+    -- it is not zero
+    module _ (some : of_z w64 q ≡ 0 → ⊥) where
+      nonzero : is_zero q ≡ false
+      nonzero = ne_eqb (nat_abs q) 0 (λ n. some (ap (of_z w64) (nat_abs_zero q n)))
+
+      -- whether the register has room is whether the held has
+      blocked_is : blocked held i j z ≡ not (taken t key)
+      unfolding blocked listed
+      blocked_is =
+          ap₂ (λ x n. (is_zero x && not (is_zero z)) && leb t.capacity n) (sym old) (count_is e c t k.stored i j key k.placed)
+          ∙ by_some (value_of t key) (k.stored.each key) (rw (sym old) at facts.1)
+        where
+          by_some : (o : Option ℤ) → T (proper o) → q ≡ amount o +ℤ z → ((is_zero (amount o) && not (is_zero z)) && leb t.capacity (size t)) ≡ not (is_some o || ltb (size t) t.capacity)
+          by_some None h s =
+              let x : pos 0 +ℤ z ≡ z = omega (arith, ints) in
+              let y : is_zero z ≡ false = ap is_zero (sym (s ∙ x)) ∙ nonzero in
+              rw y (grind (arith, nat_tests))
+          by_some (Some v) h s = and_left _ _ (and_left (is_zero v) _ (right (small v) (is_zero v) h))
+
+      -- whatever the put answers
+      module _ (t' : Table ℤ) (put_is : t' ≡ putted t key (to_z w64 (of_z w64 q))) where
+        after : t' ≡ putted t key q
+        after = put_is ∙ ap (putted t key) kept
+
+        pub put_stored : Stored e c t'
+        put_stored =
             ⊎_elim
-            (λ (u : is_zero (book.at i j) ≡ true). and_left _ _ (and_right _ (not (is_zero z)) (still (book.at i j) u facts.1 is_nought)))
-            (λ (u : is_zero (book.at i j) ≡ false). and_left _ _ (and_left (is_zero (book.at i j)) _ u))
-            (cases_Bool (is_zero (book.at i j)))
-          where
-            still : (x : ℤ) → is_zero x ≡ true → q ≡ x +ℤ z → q ≡ pos 0 → not (is_zero z) ≡ false
-            still x u s n =
-                let f = eqb-true (nat_abs x) 0 u in
-                ap not (eq-eqb (nat_abs z) 0 (omega (arith, ints)))
+            (λ u. subst (Stored e c) (sym (after ∙ putted_ok t key q u)) (in_stored e c t k.stored i j key k.placed q is_small nonzero u))
+            (λ u. subst (Stored e c) (sym (after ∙ putted_err t key q u)) k.stored)
+            (cases_Bool (taken t key))
 
-        pub zero_answer : Ok (pos 0) ≡ reply book i j z
-        zero_answer = ap Ok (sym is_nought) ∙ done zero_free
+        -- it is accepted
+        module _ (o : Option ℤ) (accepted : Ok o ≡ put_reply t key) where
+          answer : Ok q ≡ reply held i j z
+          answer = done (blocked_is ∙ ap not (put_ok t key o accepted))
 
-        pub zero_state : (t' : Table ℤ) → t' ≡ removed t key → listed e c t' ≡ posted book i j z
-        zero_state t' s =
-            ap (listed e c) s ∙ (out_listed ∙ sym (posted_done book i j z (pos 0) (sym zero_answer)))
+          pub put_answer : Ok (to_z w64 (of_z w64 q)) ≡ reply held i j z
+          put_answer = ap Ok kept ∙ answer
 
-      -- it is not zero
-      module _ (some : of_z w64 q ≡ 0 → ⊥) where
-        nonzero : is_zero q ≡ false
-        nonzero = ne_eqb (nat_abs q) 0 (λ n. some (ap (of_z w64) (nat_abs_zero q n)))
+          pub put_state : listed e c t' ≡ posted held i j z
+          put_state =
+              ap (listed e c) (after ∙ putted_ok t key q (put_ok t key o accepted))
+              ∙ (in_listed e c t k.stored i j key k.placed q ∙ sym (posted_done held i j z q (sym answer)))
 
-        -- whether the register has room is whether the book has
-        blocked_is : blocked book i j z ≡ not (taken t key)
-        unfolding blocked listed
-        blocked_is =
-            ap₂ (λ x n. (is_zero x && not (is_zero z)) && leb t.capacity n) (sym old_is) count_is
-            ∙ by_some (value_of t key) (s.each key) (rw (sym old_is) at facts.1)
-          where
-            by_some : (o : Option ℤ) → T (proper o) → q ≡ amount o +ℤ z → ((is_zero (amount o) && not (is_zero z)) && leb t.capacity (size t)) ≡ not (is_some o || ltb (size t) t.capacity)
-            by_some None h s =
-                let x : pos 0 +ℤ z ≡ z = omega (arith, ints) in
-                let y : is_zero z ≡ false = ap is_zero (sym (s ∙ x)) ∙ nonzero in
-                rw y (grind (arith, nat_tests))
-            by_some (Some v) h s = and_left _ _ (and_left (is_zero v) _ (right (small v) (is_zero v) h))
+        -- it is declined
+        module _ (x : Refusal) (declined : Err x ≡ put_reply t key) where
+          pub full_answer : Err x ≡ reply held i j z
+          full_answer =
+              let u = put_err t key x declined in
+              ap Err u.1 ∙ sym (reply_full held i j z held_inside facts.0 (blocked_is ∙ ap not u.0))
 
-        -- whatever the put answers
-        module _ (t' : Table ℤ) (put_is : t' ≡ putted t key (to_z w64 (of_z w64 q))) where
-          after : t' ≡ putted t key q
-          after = put_is ∙ ap (putted t key) kept
-
-          pub put_stored : Stored e c t'
-          put_stored =
-              ⊎_elim
-              (λ u. subst (Stored e c) (sym (after ∙ putted_ok t key q u)) (in_stored q is_small nonzero u))
-              (λ u. subst (Stored e c) (sym (after ∙ putted_err t key q u)) s)
-              (cases_Bool (taken t key))
-
-          -- it is accepted
-          module _ (o : Option ℤ) (accepted : Ok o ≡ put_reply t key) where
-            answer : Ok q ≡ reply book i j z
-            answer = done (blocked_is ∙ ap not (put_ok t key o accepted))
-
-            pub put_answer : Ok (to_z w64 (of_z w64 q)) ≡ reply book i j z
-            put_answer = ap Ok kept ∙ answer
-
-            pub put_state : listed e c t' ≡ posted book i j z
-            put_state =
-                ap (listed e c) (after ∙ putted_ok t key q (put_ok t key o accepted))
-                ∙ (in_listed q ∙ sym (posted_done book i j z q (sym answer)))
-
-          -- it is declined
-          module _ (x : Refusal) (declined : Err x ≡ put_reply t key) where
-            pub full_answer : Err x ≡ reply book i j z
-            full_answer =
-                let u = put_err t key x declined in
-                ap Err u.1 ∙ sym (reply_full book i j z is_inside facts.0 (blocked_is ∙ ap not u.0))
-
-            pub full_state : listed e c t' ≡ posted book i j z
-            full_state =
-                ap (listed e c) (after ∙ putted_err t key q (put_err t key x declined).0)
-                ∙ sym (posted_declined book i j z x (sym full_answer))
+          pub full_state : listed e c t' ≡ posted held i j z
+          full_state =
+              ap (listed e c) (after ∙ putted_err t key q (put_err t key x declined).0)
+              ∙ sym (posted_declined held i j z x (sym full_answer))
 
 -- ---- a new list
 spread_empty : (e c i j : ℕ) → spread e c (λ _. None) i j ≡ pos 0
