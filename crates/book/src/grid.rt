@@ -42,6 +42,7 @@ impl<'a> Grid<'a> {
     }
 
     // The cell of a pair.
+    #[tactic(auto, using(crate::specs::Soundness::place_lt))]
     fn place(&self, entity: usize, contract: usize) -> Option<usize>
         ensures place { result ≡ place_of self.now.entities self.now.contracts entity contract }
         ensures within { IfSome result (λ at. at < length self.now.cells.now) }
@@ -65,6 +66,7 @@ impl<'a> Holds for Grid<'a> {
 }
 
 impl<'a> Book for Grid<'a> {
+    #[tactic(auto, unfolding(crate::specs::Holding::gridded))]
     fn shape(&self) -> Shape {
         Shape {
             entities: self.entities,

@@ -75,6 +75,7 @@ impl<'a> Holds for List<'a> {
 }
 
 impl<'a> Book for List<'a> {
+    #[tactic(auto, unfolding(crate::specs::Listed::listed))]
     fn shape(&self) -> Shape {
         Shape {
             entities: self.entities as usize,
