@@ -44,11 +44,7 @@ module _ (n : ℕ) (lacks : ℕ → Bool) (needs : ℕ → ℕ → Bool) where
   not_lacking c f = rw (sym f) refl
 
   pub not_needed : (c : ℕ) → first_below n (λ e. needs e c) ≡ None → wanted c ≡ false
-  not_needed c h = ap (λ o. is_some (cond (lacks c) o None)) h ∙ same (lacks c)
-    where
-      same : (b : Bool) → is_some {T = ℕ} (cond b None None) ≡ false
-      same true = refl
-      same false = refl
+  not_needed c h = grind arith
 
   -- the scan ends at contract c and entity e
   pub missing_at : (c e : ℕ) → c < most_contracts → first_below c wanted ≡ None → true ≡ lacks c → e < n → first_below e (λ k. needs k c) ≡ None → true ≡ needs e c → missing n lacks needs ≡ Some (c, e)
@@ -76,11 +72,7 @@ module _ (n : ℕ) (lacks : ℕ → Bool) (needs : ℕ → ℕ → Bool) where
       go (Some k) h = both_ways (wanted c) f (ap is_some (cond-true (lacks c) _ _ m.2 ∙ h))
 
   found : (c e : ℕ) → first_needing n lacks needs c ≡ Some e → (lacks c ≡ true) × (first_below n (λ k. needs k c) ≡ Some e)
-  found c e h = go (lacks c) refl
-    where
-      go : (b : Bool) → lacks c ≡ b → (lacks c ≡ true) × (first_below n (λ k. needs k c) ≡ Some e)
-      go true t = (t, sym (cond-true (lacks c) _ _ t) ∙ h)
-      go false f = absurd (false≢true (ap is_some (rw f at h)))
+  found c e h = grind arith
 
   told : (c : ℕ) → c < most_contracts → ((k : ℕ) → k < c → wanted k ≡ false) → (o : Option ℕ) → first_needing n lacks needs c ≡ o → is_some o ≡ true → FirstMissing n lacks needs (paired c o)
   told c l before None h t = absurd (false≢true t)

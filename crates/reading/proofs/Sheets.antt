@@ -1,11 +1,12 @@
 -- The deltas of a sheet that is made.
-use Rattle.std.proofs.Common.{◌≡◌, ℕ, zero, suc, ◌+◌, ◌<◌, ◌≤◌, Bool, true, false, cond, ◌&&◌, ltb, List, get_or, ℤ, pos, nat_abs, Some, None, Option, sym, refl, ◌∙◌, subst, ⊎_elim, inl, inr, arith}
+use Rattle.std.proofs.Common.{◌≡◌, ℕ, zero, suc, ◌+◌, ◌<◌, ◌≤◌, List, get_or, ℤ, pos, nat_abs, Some, None, Option, sym, ◌∙◌, subst, ⊎_elim, inl, inr, arith}
 use mathlib.Core.Path.{fun_ext}
 use denote.Param.Members.{Mut}
 use Rattle.std.specs.Array.{IsFromFnResult, IsFromFnResultFrom}
 use Rattle.std.specs.Iterator.{ActsAs}
 use Rattle.std.proofs.lemmas.List.{get_or_past}
-use Rattle.std.proofs.lemmas.Bool.{cases_lt, cases_eq, cond-false, cond_both, le-ltb, and_left}
+use Rattle.std.proofs.lemmas.Bool.{cases_lt, cases_eq, cond_both}
+use Rattle.std.proofs.lemmas.Bool.Decides.{nat_tests}
 use Rattle.terms.specs.Bounds.{most_contracts}
 use Rattle.terms.specs.declared.kind.Contract.{Contract}
 use Rattle.terms.specs.declared.kind.Kind.{Kind}
@@ -37,7 +38,7 @@ module _ {F A : Type 0} {g : Mut F (ℕ × Unit {0}) A} {f : F} (v : ℕ → A) 
 module _ (cs : List Contract) (u : ℕ) (d : ℕ → Kind → Option ℤ) where
   -- past the most contracts, nothing weighs anything
   pub weightless : (k : ℕ) → most_contracts ≤ k → delta_in cs u d k ≡ Some (pos 0)
-  weightless k l = cond-false (within cs u k) _ _ (and_left (ltb k most_contracts) _ (le-ltb k most_contracts l))
+  weightless k l = grind (arith, nat_tests)
 
   zero_small : (kind : Kind) (o : Option ℤ) → Lawful kind o → nat_abs (or_zero o) ≤ delta_bound
   zero_small kind None h = omega arith
@@ -51,12 +52,8 @@ module _ (cs : List Contract) (u : ℕ) (d : ℕ → Kind → Option ℤ) where
       (λ _. omega arith)
 
   -- what its deltas weigh, and which lack
-  both : (b : Bool) (o : Option ℤ) → (or_zero (cond b o (Some (pos 0))) ≡ cond b (or_zero o) (pos 0)) × (is_none (cond b o (Some (pos 0))) ≡ (b && is_none o))
-  both true o = (refl, refl)
-  both false o = (refl, refl)
-
   pub weights : (λ c. or_zero (delta_in cs u d c)) ≡ weight_of cs u d
-  weights = fun_ext (λ c. (both (within cs u c) (delta_at cs d c)).0)
+  weights = fun_ext (λ c. grind arith)
 
   pub lacks : (λ c. is_none (delta_in cs u d c)) ≡ lacks_delta cs u d
-  lacks = fun_ext (λ c. (both (within cs u c) (delta_at cs d c)).1)
+  lacks = fun_ext (λ c. grind arith)

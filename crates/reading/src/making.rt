@@ -1,5 +1,5 @@
 // How a sheet is made and read.
-ghost use Rattle.std.specs.Prelude.{◌≡◌, pos, slice_index_or, Some};
+ghost use Rattle.std.specs.Prelude.{◌≡◌};
 ghost use Rattle.reading.specs.Sheets.{weight_of, lacks_delta, delta_in};
 ghost use Rattle.reading.specs.Views.{weights_of, lacking_of, deltas_of};
 
@@ -7,7 +7,6 @@ use crate::chain::Chain;
 use crate::sheet::Sheet;
 use delta::source::Delta;
 use std::array;
-use terms::kind::Contract;
 
 // What a unit of contract `c` weighs, or none where it lacks a delta.
 fn weigh<D: Delta>(source: &D, chain: Chain<'_>, c: usize) -> Option<i32>

@@ -3,6 +3,7 @@ use Rattle.std.proofs.Common.{◌≡◌, ℕ, ◌*◌, ◌≤◌, true, leb, Lis
 use Rattle.std.specs.List.{AllByRecursion as All}
 use Rattle.std.proofs.ByRecursion.{sum_by_le}
 use Rattle.std.proofs.lemmas.Bool.{and_parts, leb-true}
+use Rattle.std.proofs.lemmas.Bool.Decides.{nat_tests}
 use Rattle.rules.specs.Bounds.{float_least, float_most, days_least, days_most, delivery_most}
 use Rattle.rules.specs.Limit.{are_in_range, is_accepted}
 
@@ -21,15 +22,12 @@ pub record Accepted (free : ℕ) (daily : List ℕ) : Type 0 where
 
 pub accepted : (free : ℕ) (daily : List ℕ) → is_accepted free daily ≡ true → Accepted free daily
 accepted free daily h =
-    let a = and_parts (leb float_least free) _ h in
-    let b = and_parts (leb free float_most) _ a.1 in
-    let c = and_parts (leb days_least (length daily)) _ b.1 in
-    let d = and_parts (leb (length daily) days_most) _ c.1 in
-    let few : length daily ≤ days_most = leb-true (length daily) days_most d.0 in
+    let few : length daily ≤ days_most = grind (arith, nat_tests) in
+    let small : are_in_range daily ≡ true = grind (arith, nat_tests) in
     record {
-      float_least_is = leb-true float_least free a.0;
-      float_most_is = leb-true free float_most b.0;
-      days_least_is = leb-true days_least (length daily) c.0;
+      float_least_is = grind (arith, nat_tests);
+      float_most_is = grind (arith, nat_tests);
+      days_least_is = grind (arith, nat_tests);
       days_most_is = few;
-      delivered = omega (arith, sum_by_le (λ x. x) delivery_most daily (all_in_range daily d.1));
+      delivered = omega (arith, sum_by_le (λ x. x) delivery_most daily (all_in_range daily small));
     }

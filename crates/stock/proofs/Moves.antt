@@ -14,7 +14,6 @@ use Rattle.rules.specs.Charge.{charge_of}
 use Rattle.rules.specs.Violation.{between, violation}
 use Rattle.stock.specs.declared.violation.Violation.{Violation}
 use Rattle.stock.specs.declared.turn.Turn.{Turn}
-use Rattle.stock.specs.declared.turn.Turn.TheVariants.{NoBan, Begins, Holds, Ends}
 use Rattle.stock.specs.Close.{judges, obeys, new_pair, closed_base, closed_violated, closed_charge, quantity_or_zero, charge_or_zero}
 use Rattle.stock.specs.Steps.{with_row, found}
 use Rattle.stock.proofs.Cells.{alike}
@@ -56,15 +55,10 @@ module _ (s : ℕ → Bool) (e : ℕ) (row : ℕ → ℤ) (old : ℕ → ℕ →
 
 -- ---- one entity judged
 pub obeyed : (t : Turn) (x y : ℤ) (price : ℕ) → between x y ≡ true → None ≡ found t x y price
-obeyed t x y price h = rw h (none (judges t) _)
-  where
-    none : (j : Bool) (v : Violation) → None ≡ cond (j && not true) (Some v) None
-    none true v = refl
-    none false v = refl
+obeyed t x y price h = grind arith
 
 pub violating : (t : Turn) (x y : ℤ) (price v k : ℕ) → judges t ≡ true → between x y ≡ false → v ≡ violation x y → k ≡ charge_of v price → Some (record { quantity = v; charge = k }) ≡ found t x y price
-violating t x y price v k j h e f =
-    (λ i. Some (record { quantity = e i; charge = (f ∙ ap (λ n. charge_of n price) e) i })) ∙ rw (j, h) refl
+violating t x y price v k j h e f = grind arith
 
 -- ---- the entities of a stock
 -- a row of what each of the first i entities violates and is charged
@@ -86,21 +80,14 @@ module _ (v : ℕ → Option Violation) where
 
 -- what is read of a row: zero where nobody is judged
 quantity_at : (a j b : Bool) (m price : ℕ) → quantity_or_zero (cond a (cond (j && not b) (Some (record { quantity = cond b 0 m; charge = charge_of (cond b 0 m) price })) None) None) ≡ cond (a && j) (cond b 0 m) 0
-quantity_at true true true m price = refl
-quantity_at true true false m price = refl
-quantity_at true false b m price = refl
-quantity_at false j b m price = refl
+quantity_at a j b m price = grind arith
 
 charge_at : (a j b : Bool) (m price : ℕ) → charge_or_zero (cond a (cond (j && not b) (Some (record { quantity = cond b 0 m; charge = charge_of (cond b 0 m) price })) None) None) ≡ cond (a && j) (charge_of (cond b 0 m) price) 0
-charge_at true true true m price = refl
-charge_at true true false m price = refl
-charge_at true false b m price = refl
-charge_at false j b m price = refl
+charge_at a j b m price = grind arith
 
 -- whether a violation was found
 is_found : (c : Bool) (v : Violation) → is_some (cond c (Some v) None) ≡ c
-is_found true v = refl
-is_found false v = refl
+is_found c v = grind arith
 
 module _ (t : Turn) (w : ℕ → ℤ) (old book : ℕ → ℕ → ℤ) (price : ℕ) where
   abbrev pub each : ℕ → Option Violation
@@ -117,11 +104,7 @@ module _ (t : Turn) (w : ℕ → ℤ) (old book : ℕ → ℕ → ℤ) (price : 
 
 -- where nobody is judged, it makes no difference whether an entity obeys
 settled : (t : Turn) (ok : Bool) (x y : ℤ) → new_pair t (not (judges t && not ok)) x y ≡ new_pair t ok x y
-settled NoBan ok x y = refl
-settled Begins ok x y = refl
-settled Holds true x y = refl
-settled Holds false x y = refl
-settled Ends ok x y = refl
+settled t ok x y = grind arith
 
 -- entity i more has what r says
 more_at : (s : ℕ → Bool) (i : ℕ) (r old : ℕ → ℕ → ℤ) (e c : ℕ) → cond (eqb e i && s c) (r i c) (cond (ltb e i && s c) (r e c) (old e c)) ≡ cond (ltb e (i + 1) && s c) (r e c) (old e c)
@@ -176,5 +159,4 @@ charged_few p n =
     omega (arith, sum_small (λ k. cond (p k) 1 0) 1 (λ k. cond_both (p k) 1 0 (λ m. m ≤ 1) (λ _. omega arith) (λ _. omega arith)) n)
 
 pub byte_le : (b : Bool) → bool_byte b ≤ 1
-byte_le true = omega arith
-byte_le false = omega arith
+byte_le b = grind arith

@@ -37,10 +37,8 @@ impl Base {
         requires { contract < most_contracts }
         ensures { base_of self.new.cells ≡ put (base_of self.old.cells) entity.number contract (quantity_of (H.held from.now) entity.number contract) }
     {
-        self.cells[entity.number * MOST_CONTRACTS + contract] = from.quantity(
-            entity.number,
-            contract,
-        );
+        let quantity = from.quantity(entity.number, contract);
+        self.cells[entity.number * MOST_CONTRACTS + contract] = quantity;
     }
 }
 

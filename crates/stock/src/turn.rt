@@ -5,6 +5,7 @@ ghost use Rattle.stock.specs.Close.{turn_of, judges, in_force};
 
 use rules::ban;
 
+// What becomes of a stock's ban.
 #[derive(Clone, Copy, PartialEq, Eq, Debug)]
 pub enum Turn {
     // There is none.

@@ -12,7 +12,7 @@ invariant_of-self g c =
     let cells = c.args.self.now.cells in
     let full : length cells ≡ most_pairs = search rules in
     let b = (g.H.Holds.sound c.args.from.now).bounded c.args.entity.number c.args.contract in
-    let small : nat_abs (to_z w64 (of_z w64 c.quantity.result)) ≤ quantity_bound = omega (arith, ints, b, ap nat_abs c.quantity.ensures) in
+    let small : nat_abs (to_z w64 (of_z w64 c.quantity-quantity.result)) ≤ quantity_bound = omega (arith, ints, b, ap nat_abs c.quantity-quantity.ensures) in
     record { small = still_small cells _ _ c.args.self.now.small small (omega (arith, c.args.entity.below)) }
 
 pub returns : goal.returns
@@ -20,6 +20,6 @@ returns g c =
     let cells = c.args.self.now.cells in
     let full : length cells ≡ most_pairs = search rules in
     let b = (g.H.Holds.sound c.args.from.now).bounded c.args.entity.number c.args.contract in
-    let small : nat_abs c.quantity.result ≤ quantity_bound = omega (arith, ints, b, ap nat_abs c.quantity.ensures) in
+    let small : nat_abs c.quantity-quantity.result ≤ quantity_bound = omega (arith, ints, b, ap nat_abs c.quantity-quantity.ensures) in
     written cells c.args.entity.number c.args.contract _ c.args.entity.below c.requires full
-    ∙ ap (put (base_of cells) c.args.entity.number c.args.contract) (stored c.quantity.result small ∙ c.quantity.ensures)
+    ∙ ap (put (base_of cells) c.args.entity.number c.args.contract) (stored c.quantity-quantity.result small ∙ c.quantity-quantity.ensures)
