@@ -2,7 +2,7 @@
 #![tactic(auto)]
 
 mod declare;
-mod lines;
+mod notices;
 pub mod play;
 mod serve;
 mod tally;

@@ -1,33 +1,61 @@
 // A whole journal.
 use crate::declare::declare;
-use crate::lines::Lines;
+use crate::notices::Notices;
 use crate::serve::serve;
-use crate::tally::Tally;
 use book::grid::Grid;
 use book::list::List;
 use book::position::Book;
 use book::row::Row;
 use journal::line::Layout;
 use monitor::state::Monitor;
+use opening::opening::Opening;
 use opening::setup::Setup;
-use std::io::{BufWriter, Read, Write};
+use std::alloc::Global;
+use terms::limits::Limits;
+use std::io::{BufRead, BufReader, Read, Split, Write};
+
+// The lines of an input, without their line feeds.
+type Lines<R> = Split<BufReader<R>>;
 
 // The lines up to the one that opens, or all of them where none does.
 fn declare_all<R: Read + Drop, W: Write + Drop>(
     lines: &mut Lines<R>,
-    out: &mut BufWriter<W>,
-    tally: &mut Tally,
-    setup: &mut Setup,
-) -> anyhow::Result<()> {
-    for _ in 0..u64::MAX {
-        if !lines.advance()? {
-            break;
-        }
-        tally.count_line();
-        declare(out, tally, setup, lines.line())?;
+    notices: &mut Notices<W>,
+) -> anyhow::Result<Setup> {
+    let mut setup = Setup::new();
+    for line in lines.by_ref() {
+        notices.next_line();
+        declare(notices, &mut setup, line?.as_slice())?;
         if setup.is_open() {
             break;
         }
+    }
+    Ok(setup)
+}
+
+// Opens a monitor over the book and takes the rest of the lines.
+fn serve_all<R: Read + Drop, W: Write + Drop, B: Book>(
+    lines: &mut Lines<R>,
+    notices: &mut Notices<W>,
+    setup: &Setup,
+    limits: Limits,
+    book: &mut B,
+) -> anyhow::Result<()> {
+    let shape = book.shape();
+    let mut monitor = Monitor::open(
+        book,
+        setup.contracts(),
+        setup.underlyings(),
+        limits,
+    );
+    if monitor.is_open() {
+        notices.opened(shape)?;
+    } else {
+        notices.not_opened()?;
+    }
+    for line in lines.by_ref() {
+        notices.next_line();
+        serve(notices, &mut monitor, line?.as_slice())?;
     }
     Ok(())
 }
@@ -37,85 +65,44 @@ fn narrow(n: usize) -> u32 {
     u32::try_from(n).unwrap_or(u32::MAX)
 }
 
-// Opens a monitor over the book and takes the rest of the lines.
-fn serve_all<R: Read + Drop, W: Write + Drop, B: Book>(
+// Makes the book that was declared and serves the rest of the lines over it.
+fn serve_over<R: Read + Drop, W: Write + Drop>(
+    heap: Global,
     lines: &mut Lines<R>,
-    out: &mut BufWriter<W>,
-    tally: &mut Tally,
+    notices: &mut Notices<W>,
     setup: &Setup,
-    book: &mut B,
+    opening: Opening,
 ) -> anyhow::Result<()> {
-    let Some(limits) = setup.limits() else {
-        return Ok(());
-    };
-    let shape = book.shape();
-    let mut monitor = Monitor::open(
-        book,
-        setup.contracts(),
-        setup.underlyings(),
-        limits.net,
-        limits.gross,
-    );
-    let n = tally.lines;
-    if monitor.is_open() {
-        writeln!(
-            out,
-            "{n} open {} {} {}",
-            shape.entities, shape.contracts, shape.capacity
-        )?;
-    } else {
-        writeln!(out, "{n} not open")?;
-    }
-    for _ in 0..u64::MAX {
-        if !lines.advance()? {
-            break;
+    let Opening { book, limits } = opening;
+    match book.layout {
+        Layout::Grid => {
+            let mut cells = vec![in heap; 0i64; book.places]?;
+            let mut grid = Grid::new(&mut cells, book.entities, book.contracts);
+            serve_all(lines, notices, setup, limits, &mut grid)
         }
-        tally.count_line();
-        serve(out, tally, &mut monitor, lines.line())?;
+        Layout::List => {
+            let blank = Row {
+                key: 0,
+                value: 0i64,
+            };
+            let mut rows = vec![in heap; blank; book.places]?;
+            let mut list = List::new(
+                &mut rows,
+                narrow(book.entities),
+                narrow(book.contracts),
+            );
+            serve_all(lines, notices, setup, limits, &mut list)
+        }
     }
-    Ok(())
 }
 
 // Plays the journal from the input, and prints what it did.
 pub fn play<R: Read + Drop>(rt: &HostRuntime, input: R) -> anyhow::Result<()> {
-    let mut out = BufWriter::new(rt.alloc(), rt.stdout())?;
-    let mut lines = Lines::new(rt.alloc(), input)?;
-    let mut tally = Tally::new();
-    let mut setup = Setup::new();
-    declare_all(&mut lines, &mut out, &mut tally, &mut setup)?;
-    if let Some(book) = setup.book() {
-        if setup.is_open() {
-            match book.layout {
-                Layout::Grid => {
-                    let mut cells = vec![in rt.alloc(); 0i64; book.places]?;
-                    let mut grid = Grid::new(&mut cells, book.entities, book.contracts);
-                    serve_all(&mut lines, &mut out, &mut tally, &setup, &mut grid)?;
-                }
-                Layout::List => {
-                    let mut rows = vec![in rt.alloc(); Row {
-                        key: 0,
-                        value: 0i64
-                    }; book.places]?;
-                    let mut list = List::new(
-                        &mut rows,
-                        narrow(book.entities),
-                        narrow(book.contracts),
-                    );
-                    serve_all(&mut lines, &mut out, &mut tally, &setup, &mut list)?;
-                }
-            }
-        }
+    let mut lines = BufReader::new(rt.alloc(), input)?.split(rt.alloc(), b'\n');
+    let mut notices = Notices::new(rt.alloc(), rt.stdout())?;
+    let setup = declare_all(&mut lines, &mut notices)?;
+    if let Some(opening) = setup.opening() {
+        serve_over(rt.alloc(), &mut lines, &mut notices, &setup, opening)?;
     }
-    let Tally {
-        lines,
-        accepted,
-        refused,
-        malformed,
-    } = tally;
-    writeln!(
-        out,
-        "end lines {lines} accepted {accepted} refused {refused} malformed {malformed}"
-    )?;
-    out.flush()?;
-    Ok(())
+    notices.end()
 }

@@ -1,6 +1,6 @@
 // What the last line counts.
 
-#[derive(Drop)]
+#[derive(Clone, Copy, Default, Debug)]
 pub(crate) struct Tally {
     pub lines: u64,
     pub accepted: u64,
@@ -9,25 +9,17 @@ pub(crate) struct Tally {
 }
 
 impl Tally {
-    pub(crate) fn new() -> Tally {
-        Tally {
-            lines: 0,
-            accepted: 0,
-            refused: 0,
-            malformed: 0,
-        }
-    }
-
     pub(crate) fn count_line(&mut self) {
         self.lines = self.lines.saturating_add(1);
     }
 
     pub(crate) fn count_call(&mut self, accepted: bool) {
-        if accepted {
-            self.accepted = self.accepted.saturating_add(1);
+        let calls = if accepted {
+            &mut self.accepted
         } else {
-            self.refused = self.refused.saturating_add(1);
-        }
+            &mut self.refused
+        };
+        *calls = calls.saturating_add(1);
     }
 
     pub(crate) fn count_malformed(&mut self) {

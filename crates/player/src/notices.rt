@@ -1,0 +1,90 @@
+// What is printed: a notice for each line that has one, and the counts at the end.
+use crate::tally::Tally;
+use book::position::Shape;
+use replies::fault::Fault;
+use replies::told::Told;
+use std::alloc::Global;
+use std::fmt::Display;
+use std::io::{BufWriter, Write};
+use terms::refusal::Refusal;
+
+#[derive(Drop)]
+pub(crate) struct Notices<W: Write + Drop> {
+    out: BufWriter<W>,
+    tally: Tally,
+}
+
+impl<W: Write + Drop> Notices<W> {
+    pub(crate) fn new(heap: Global, out: W) -> anyhow::Result<Notices<W>> {
+        Ok(Notices {
+            out: BufWriter::new(heap, out)?,
+            tally: Tally::default(),
+        })
+    }
+
+    // Goes to the next line: what is printed next is of that one.
+    pub(crate) fn next_line(&mut self) {
+        self.tally.count_line();
+    }
+
+    pub(crate) fn malformed(&mut self, fault: Fault) -> anyhow::Result<()> {
+        self.tally.count_malformed();
+        let n = self.tally.lines;
+        writeln!(self.out, "{n} malformed {fault}")?;
+        Ok(())
+    }
+
+    pub(crate) fn declared(&mut self) -> anyhow::Result<()> {
+        let n = self.tally.lines;
+        writeln!(self.out, "{n} declared")?;
+        Ok(())
+    }
+
+    pub(crate) fn opened(&mut self, shape: Shape) -> anyhow::Result<()> {
+        let n = self.tally.lines;
+        let Shape {
+            entities,
+            contracts,
+            capacity,
+        } = shape;
+        writeln!(self.out, "{n} open {entities} {contracts} {capacity}")?;
+        Ok(())
+    }
+
+    pub(crate) fn not_opened(&mut self) -> anyhow::Result<()> {
+        let n = self.tally.lines;
+        writeln!(self.out, "{n} not open")?;
+        Ok(())
+    }
+
+    // The answer to a call.
+    pub(crate) fn called(&mut self, answer: Result<i64, Refusal>) -> anyhow::Result<()> {
+        self.tally.count_call(answer.is_ok());
+        let n = self.tally.lines;
+        let told = Told(answer);
+        writeln!(self.out, "{n} {told}")?;
+        Ok(())
+    }
+
+    // The answer to a question.
+    pub(crate) fn told<T: Display + Drop>(&mut self, answer: T) -> anyhow::Result<()> {
+        let n = self.tally.lines;
+        writeln!(self.out, "{n} ok {answer}")?;
+        Ok(())
+    }
+
+    pub(crate) fn end(mut self) -> anyhow::Result<()> {
+        let Tally {
+            lines,
+            accepted,
+            refused,
+            malformed,
+        } = self.tally;
+        writeln!(
+            self.out,
+            "end lines {lines} accepted {accepted} refused {refused} malformed {malformed}"
+        )?;
+        self.out.flush()?;
+        Ok(())
+    }
+}
