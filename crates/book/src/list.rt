@@ -66,6 +66,7 @@ impl<'a> Holds for List<'a> {
 
     ghost sound = { λ s. list_sound s.entities s.contracts s.register s.stored };
 
+    // By `let .. else`: what a closure over a list answers is not told to the proof.
     fn quantity(&self, entity: usize, contract: usize) -> i64 {
         let Some(key) = self.key(entity, contract) else {
             return 0;
