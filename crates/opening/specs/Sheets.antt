@@ -11,7 +11,7 @@ use Rattle.replies.specs.declared.fault.Fault.TheVariants.{AfterOpen, Twice, Not
 use Rattle.journal.specs.declared.line.Book.{Book}
 use Rattle.journal.specs.declared.line.Declaration.{Declaration}
 use Rattle.journal.specs.declared.line.Declaration.TheVariants as declaration
-use Rattle.opening.specs.declared.opening.Opening.{Opening}
+use Rattle.opening.specs.declared.opened.Opening.{Opening}
 
 -- what was declared, and what `open` was accepted with; underlyings and contracts are numbered from 0 in this order
 pub record Sheet : Type 0 where

@@ -2,6 +2,6 @@
 #![tactic(auto)]
 
 pub mod bounds;
-pub mod opening;
+pub mod opened;
 mod roster;
 pub mod setup;

@@ -4,7 +4,7 @@ ghost use Rattle.opening.specs.Bounds.{declared_underlyings, declared_contracts}
 ghost use Rattle.opening.specs.Sheets.{Sheet, empty_sheet, first, ready_to_open, answered, noted, readiness};
 
 use super::bounds::{DECLARED_CONTRACTS, DECLARED_UNDERLYINGS};
-use super::opening::Opening;
+use super::opened::Opening;
 use super::roster::Roster;
 use journal::line::{Book, Declaration};
 use replies::fault::Fault;
