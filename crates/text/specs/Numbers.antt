@@ -1,5 +1,5 @@
 -- The words that are numbers of 64 signed bits.
-use Rattle.std.specs.Prelude.{ℕ, ◌+◌, ◌-◌, ◌*◌, ◌^◌, cond, List, [], ◌∷◌, ℤ, pos, negsuc, neg_ℤ, Some, None, Option, ◌==◌, nat_le, nat_lt}
+use Rattle.std.specs.Prelude.{ℕ, ◌+◌, ◌-◌, ◌*◌, ◌^◌, min, cond, List, [], ◌∷◌, ℤ, pos, negsuc, neg_ℤ, Some, None, Option, ◌==◌, nat_le, nat_lt}
 use Rattle.std.specs.Char.{is_ascii_digit}
 use Rattle.std.specs.Option.{option_and_then}
 
@@ -12,6 +12,10 @@ digits_on n (b ∷ bs) = cond (is_ascii_digit b) (digits_on (n * 10 + (b - 48)) 
 abbrev pub natural_of : List ℕ → Option ℕ
 natural_of [] = None
 natural_of (b ∷ bs) = digits_on 0 (b ∷ bs)
+
+-- at most the largest number of 64 bits
+abbrev pub capped : ℕ → ℕ
+capped n = min n (2 ^ 64 - 1)
 
 -- one more than the largest number, and the size of the least
 abbrev pub reach : ℕ
