@@ -3,7 +3,7 @@ use Rattle.std.proofs.Common.{◌≡◌, ℕ, Bool, true, false, cond, not, List
 use Rattle.std.proofs.lemmas.Result.{err_from_is_err_and}
 use Rattle.terms.specs.declared.command.Trade.{Trade}
 use Rattle.terms.specs.declared.refusal.Refusal.{Refusal}
-use Rattle.terms.specs.declared.refusal.Refusal.TheVariants.{Closed, Ticket}
+use Rattle.terms.specs.declared.refusal.Refusal.TheVariants.{Closed}
 use Rattle.book.specs.Holding.{Holding, reply, posted, settle}
 use Rattle.model.specs.Causes.{Answer, Verdict, unless, verdict_of, number_in}
 use Rattle.model.specs.Opening.{is_open}
@@ -38,9 +38,6 @@ step_ok s c e = sym (ap (λ (v : Verdict). decided v (number s c) s (done s c)) 
 
 let_in : (s : State) (v : Verdict) → true ≡ is_open s.terms → unless (closed_table s.terms) v ≡ v
 let_in s v e = ap (λ (b : Bool). cond (not b) (Err Closed) v) (sym e)
-
-pub step_closed : (s : State) (c : Call) → false ≡ is_open s.terms → (Err Closed, s) ≡ step s c
-step_closed s c e = step_err s c Closed (ap (λ (b : Bool). cond (not b) (Err Closed) (of_call s.terms.listing s.ledger c)) (sym e))
 
 -- ---- post
 
@@ -107,13 +104,7 @@ module _ (s : State) (k : ℕ) (d : Trade) where
 -- ---- confirmation
 
 module _ (s : State) (open_now : true ≡ is_open s.terms) (k : ℕ) where
-  pub confirm_none : ticket_at s.ledger k ≡ None → (Err Ticket, s) ≡ step s (confirm k)
-  confirm_none h = step_err s (confirm k) Ticket (verdict_is s open_now (confirm k) ∙ ap (of_confirm s.ledger) h)
-
   module _ (d : Trade) (held : ticket_at s.ledger k ≡ Some d) where
-    pub confirm_declined : (why : Refusal) → transfer_reply s.ledger.book d ≡ Err why → (Err why, s) ≡ step s (confirm k)
-    confirm_declined why r = step_err s (confirm k) why (verdict_is s open_now (confirm k) ∙ ap (of_confirm s.ledger) held ∙ ap verdict_of r)
-
     pub confirm_done : (q : ℤ) → transfer_reply s.ledger.book d ≡ Ok q → (Ok q, record { terms = s.terms; ledger = with_ticket (with_book s.ledger (transferred s.ledger.book d)) k None; marks = s.marks }) ≡ step s (confirm k)
     confirm_done q r =
         ap₂ (λ (a : Answer) (t : Option Trade). (Ok (number_in a), record { terms = s.terms; ledger = with_ticket (with_book s.ledger (confirmed s.ledger.book t)) k None; marks = s.marks })) (sym (ap (confirm_reply s.ledger) held ∙ r)) (sym held)

@@ -1,5 +1,5 @@
 -- The stock and its ban: what a close finds, and what it leaves.
-use Rattle.std.specs.Prelude.{ℕ, Bool, true, false, cond, not, ◌&&◌, ◌||◌, List, [], ◌∷◌, ℤ, Some, None, Ok, Option, ◌==◌}
+use Rattle.std.specs.Prelude.{ℕ, Bool, cond, not, ◌&&◌, ◌||◌, List, [], ◌∷◌, ℤ, Some, None, Ok, Option, ◌==◌, is_none}
 use Rattle.terms.specs.Bounds.{price_bound, two_minute, close_minute}
 use Rattle.terms.specs.declared.refusal.Refusal.{Refusal}
 use Rattle.terms.specs.declared.refusal.Refusal.TheVariants.{Underlying, Kind, Unset, Time, Price}
@@ -35,10 +35,6 @@ interest_at l u d q = interest l.entities (weights l u d) q
 abbrev pub stock_table : Listing → ℕ → List (Bool × Refusal)
 stock_table l u = (not (is_listed l.underlyings u), Underlying) ∷ (not (is_stock_at l.underlyings u), Kind) ∷ []
 
-abbrev pub is_unset : Option ℕ → Bool
-is_unset None = true
-is_unset (Some limit) = false
-
 -- a close at a minute that is not permitted; the two o'clock deltas count in a ban only
 abbrev pub untimely : Stock → Source → Source → Bool
 untimely k two d = not (d.minute == close_minute) || k.ban && not (two.minute == two_minute)
@@ -46,7 +42,7 @@ untimely k two d = not (d.minute == close_minute) || k.ban && not (two.minute ==
 -- UNSET, TIME, PRICE for the closing price alone
 abbrev pub close_table : Stock → Source → Source → List (Bool × Refusal)
 close_table k two d =
-    (is_unset k.limit, Unset)
+    (is_none k.limit, Unset)
     ∷ (untimely k two d, Time)
     ∷ (not (in_range 1 price_bound d.price), Price)
     ∷ []

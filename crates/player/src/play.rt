@@ -8,7 +8,7 @@ use book::position::Book;
 use book::row::Row;
 use journal::line::Layout;
 use monitor::state::Monitor;
-use opening::opening::Opening;
+use opening::opened::Opening;
 use opening::setup::Setup;
 use std::alloc::Global;
 use terms::limits::Limits;

@@ -1,5 +1,5 @@
 -- The deltas of a sheet that is made.
-use Rattle.std.proofs.Common.{◌≡◌, ℕ, zero, suc, ◌+◌, ◌<◌, ◌≤◌, List, get_or, ℤ, pos, nat_abs, Some, None, Option, sym, ◌∙◌, subst, ⊎_elim, inl, inr, arith}
+use Rattle.std.proofs.Common.{is_none, ◌≡◌, ℕ, zero, suc, ◌+◌, ◌<◌, ◌≤◌, List, get_or, ℤ, pos, nat_abs, Some, None, Option, sym, ◌∙◌, subst, ⊎_elim, inl, inr, arith}
 use mathlib.Core.Path.{fun_ext}
 use denote.Param.Members.{Mut}
 use Rattle.std.specs.Array.{IsFromFnResult, IsFromFnResultFrom}
@@ -12,7 +12,7 @@ use Rattle.terms.specs.declared.kind.Contract.{Contract}
 use Rattle.terms.specs.declared.kind.Kind.{Kind}
 use Rattle.delta.specs.Sources.{delta_bound, Lawful}
 use Rattle.delta.proofs.Sizes.{in_range_size}
-use Rattle.reading.specs.Sheets.{contract_at, within, delta_at, or_zero, is_none, weight_of, lacks_delta, delta_in}
+use Rattle.reading.specs.Sheets.{contract_at, within, delta_at, or_zero, weight_of, lacks_delta, delta_in}
 
 -- an array of the answers of f, which always answers as v does
 module _ {F A : Type 0} {g : Mut F (ℕ × Unit {0}) A} {f : F} (v : ℕ → A) (acts : ActsAs g f v) where

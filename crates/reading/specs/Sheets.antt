@@ -1,5 +1,5 @@
 -- What the contracts of an underlying weigh at the answers d of a delta source.
-use Rattle.std.specs.Prelude.{ℕ, Bool, true, false, cond, ◌&&◌, List, length, ℤ, pos, Some, None, Option, ◌==◌, nat_lt, slice_index_or}
+use Rattle.std.specs.Prelude.{ℕ, Bool, cond, ◌&&◌, List, length, ℤ, pos, Some, None, Option, ◌==◌, nat_lt, slice_index_or, is_none}
 use Rattle.terms.specs.Bounds.{most_contracts}
 use Rattle.terms.specs.declared.kind.Contract.{Contract}
 use Rattle.terms.specs.declared.kind.Kind.{Kind}
@@ -21,11 +21,6 @@ delta_at cs d c = d c (contract_at cs c).kind
 abbrev pub or_zero : Option ℤ → ℤ
 or_zero None = pos 0
 or_zero (Some d) = d
-
--- there is none
-abbrev pub is_none : {X : Type 0} → Option X → Bool
-is_none None = true
-is_none (Some x) = false
 
 -- the same where contract c is of underlying u, and a weight of 0 where it is not
 abbrev pub delta_in : List Contract → ℕ → (ℕ → Kind → Option ℤ) → ℕ → Option ℤ
