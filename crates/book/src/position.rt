@@ -43,6 +43,6 @@ pub(crate) fn summed(quantity: i64, change: i64) -> Result<i64, Refusal>
 {
     quantity
         .checked_add(change)
-        .filter(|sum| sum.unsigned_abs() <= QUANTITY_BOUND as u64)
+        .filter(|sum| (-QUANTITY_BOUND..=QUANTITY_BOUND).contains(sum))
         .ok_or(Refusal::Size)
 }

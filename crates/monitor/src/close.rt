@@ -1,6 +1,6 @@
 // The close of a stock.
-ghost use Rattle.std.specs.Prelude.{◌≡◌, ◌<◌, ◌≤◌, not, ◌&&◌, ◌||◌, Ok, ◌==◌, slice_index_or};
-ghost use Rattle.terms.specs.Bounds.{two_minute, close_minute, most_underlyings, most_entities};
+ghost use Rattle.std.specs.Prelude.{◌≡◌, ◌≤◌, not, ◌&&◌, ◌||◌, Ok, ◌==◌, slice_index_or};
+ghost use Rattle.terms.specs.Bounds.{two_minute, close_minute, most_entities};
 ghost use Rattle.delta.specs.Sources.{source_of};
 ghost use Rattle.reading.specs.Views.{weights_of, lacking_of};
 ghost use Rattle.reading.specs.Missing.{missing};
@@ -14,6 +14,7 @@ ghost use Rattle.model.specs.Calls.{close, step};
 ghost use Rattle.monitor.specs.View.{no_record, state_of, stock_in, stocks_of};
 
 use crate::inner::Inner;
+use crate::listing::StockNumber;
 use crate::state::Monitor;
 use book::position::{Book, Holds};
 use delta::source::PricedDelta;
@@ -67,24 +68,28 @@ fn turn_by(stock: &StockRecord, interest: u128) -> Turn
 
 impl Inner {
     // What is kept of a stock.
-    fn stock(&self, underlying: usize) -> &StockRecord
-        requires { underlying < most_underlyings }
-        ensures { result.now ≡ slice_index_or self.now.stocks underlying no_record }
+    fn stock(&self, stock: StockNumber) -> &StockRecord
+        ensures { result.now ≡ slice_index_or self.now.stocks stock.number no_record }
     {
-        &self.stocks[underlying]
+        &self.stocks[stock.number]
     }
 
     // What an accepted close makes of the tables: the ban turns, base moves, and what each entity violates and is charged is
     // written. Answers how many are charged.
-    fn close_stock<B: Holds>(&mut self, book: &B, entities: usize, closing: Closing<'_, '_>) -> u64
-        requires underlying { closing.chain.underlying < most_underlyings }
-        requires entities { entities ≤ most_entities }
+    fn close_stock<B: Holds>(
+        &mut self,
+        book: &B,
+        stock: StockNumber,
+        entities: usize,
+        closing: Closing<'_, '_>,
+    ) -> u64
+        requires { entities ≤ most_entities }
         ensures count { result ≡ charged_count entities closing.entry.turn (weights_of closing.entry.two.now) (base_of self.old.base.cells) (quantity_of (B.held book.now)) }
         ensures base { base_of self.new.base.cells ≡ closed_base entities (within closing.entry.chain.contracts.now closing.entry.chain.underlying) closing.entry.turn (weights_of closing.entry.two.now) (base_of self.old.base.cells) (quantity_of (B.held book.now)) }
-        ensures stocks { stocks_of self.new.stocks ≡ at closing.entry.chain.underlying (turned entities closing.entry.turn (weights_of closing.entry.two.now) (base_of self.old.base.cells) (quantity_of (B.held book.now)) closing.entry.price (stocks_of self.old.stocks closing.entry.chain.underlying)) (stocks_of self.old.stocks) }
+        ensures stocks { stocks_of self.new.stocks ≡ at stock.number (turned entities closing.entry.turn (weights_of closing.entry.two.now) (base_of self.old.base.cells) (quantity_of (B.held book.now)) closing.entry.price (stocks_of self.old.stocks stock.number)) (stocks_of self.old.stocks) }
         ensures rest { (self.new.tickets ≡ self.old.tickets) × (self.new.indices ≡ self.old.indices) }
     {
-        let stock = &mut self.stocks[closing.chain.underlying];
+        let stock = &mut self.stocks[stock.number];
         stock.banned = closing.turn.in_force();
         self.base
             .close(book, &mut stock.violations, entities, closing)
@@ -115,15 +120,15 @@ impl<'b, 't, B: Book> Monitor<'b, 't, B> {
         ensures step { (result, state_of B.Holds.held self.new) ≡ step (state_of B.Holds.held self.old) (close underlying (source_of D.Delta.answer D.PricedDelta.at D.PricedDelta.worth two.now) (source_of D.Delta.answer D.PricedDelta.at D.PricedDelta.worth closing.now)) }
         ensures same { self.new.book.ghost_name ≡ self.old.book.ghost_name }
     {
-        self.admits_stock(underlying)?;
-        admits_close(self.inner.stock(underlying), two, closing)?;
+        let stock = self.admits_stock(underlying)?;
+        admits_close(self.inner.stock(stock), two, closing)?;
         let at_two = self.sheet(underlying, two);
         let at_close = self.sheet(underlying, closing);
-        let banned = self.inner.stock(underlying).banned;
+        let banned = self.inner.stock(stock).banned;
         self.admits_deltas(banned, &at_two, &at_close)?;
         let listing = self.fixed.terms.listing;
         let interest = at_close.interest(&*self.book, listing.entities);
-        let turn = turn_by(self.inner.stock(underlying), interest);
+        let turn = turn_by(self.inner.stock(stock), interest);
         let closing = Closing {
             chain: listing.chain(underlying),
             two: &at_two,
@@ -132,7 +137,7 @@ impl<'b, 't, B: Book> Monitor<'b, 't, B> {
         };
         let charged = self
             .inner
-            .close_stock(&*self.book, listing.entities, closing);
+            .close_stock(&*self.book, stock, listing.entities, closing);
         Ok(charged as i64)
     }
 }

@@ -1,5 +1,6 @@
 // What a monitor is opened over.
-ghost use Rattle.std.specs.Prelude.{◌≡◌};
+ghost use Rattle.std.specs.Prelude.{◌≡◌, ◌<◌};
+ghost use Rattle.terms.specs.Bounds.{most_underlyings};
 
 use reading::chain::Chain;
 use terms::kind::{Contract, Underlying};
@@ -19,6 +20,13 @@ pub struct Listing<'t> {
 pub struct Terms<'t> {
     pub(crate) listing: Listing<'t>,
     pub(crate) limits: Limits,
+}
+
+// The number of a stock that is listed.
+#[derive(Clone, Copy)]
+pub(crate) struct StockNumber {
+    pub(crate) number: usize,
+    ghost below: { number < most_underlyings },
 }
 
 impl<'t> Listing<'t> {

@@ -5,7 +5,7 @@ use Rattle.terms.specs.declared.refusal.Refusal.{Refusal}
 use Rattle.terms.specs.declared.refusal.Refusal.TheVariants.{Closed}
 use Rattle.delta.specs.Sources.{Source, source_of}
 use Rattle.reading.specs.Readings.{interest}
-use Rattle.reading.specs.Sheets.{within}
+use Rattle.reading.specs.Sheets.{within, lacks_delta}
 use Rattle.stock.specs.Close.{closed_base, charged_count}
 use Rattle.model.specs.declared.parts.StockRecord.{StockRecord}
 use Rattle.model.specs.Causes.{Verdict, unless}
@@ -27,13 +27,13 @@ causes s u = closed_table s.terms ++ stock_table s.terms.listing u
 abbrev others : State → ℕ → Source → Source → Verdict
 others s u two d = unless (close_table (s.ledger.stocks u) two d) (of_deltas s.terms.listing s.ledger u two d)
 
-pub returns-in_err-admits_stock-clause-step : goal.returns-in_err-admits_stock-clause-step
-returns-in_err-admits_stock-clause-step g c =
+pub returns-in_err-stock-clause-step : goal.returns-in_err-stock-clause-step
+returns-in_err-stock-clause-step g c =
     let s : State = state_of g.B.Holds.held c.args.self.now in
     let two : Source = source_of g.D.Delta.answer g.D.PricedDelta.at g.D.PricedDelta.worth c.args.two.now in
     let d : Source = source_of g.D.Delta.answer g.D.PricedDelta.at g.D.PricedDelta.worth c.args.closing.now in
     let u = c.args.underlying in
-    exit_by_table s (close u two d) (causes s u) (others s u two d) refl c.from_residual.result _ c.from_residual.ensures.1 (sym c.in_err-admits_stock.ensures.is)
+    exit_by_table s (close u two d) (causes s u) (others s u two d) refl c.from_residual.result _ c.from_residual.ensures.1 (sym c.in_err-stock.ensures.is)
 
 pub returns-in_err-admits_close-clause-step : goal.returns-in_err-admits_close-clause-step
 returns-in_err-admits_close-clause-step g c =
@@ -41,8 +41,8 @@ returns-in_err-admits_close-clause-step g c =
     let two : Source = source_of g.D.Delta.answer g.D.PricedDelta.at g.D.PricedDelta.worth c.args.two.now in
     let d : Source = source_of g.D.Delta.answer g.D.PricedDelta.at g.D.PricedDelta.worth c.args.closing.now in
     let u = c.args.underlying in
-    let table = c.in_err-admits_close.ensures ∙ ap (λ (k : StockRecord). unless (close_table (stock_in k) two d) (Ok tt)) c.stock.ensures in
-    exit_by_rest s (close u two d) (causes s u) (others s u two d) refl c.from_residual-in_err-admits_close.result _ c.from_residual-in_err-admits_close.ensures.1 (sym c.in_ok-admits_stock.ensures.is)
+    let table = c.in_err-admits_close.ensures ∙ ap (λ (k : StockRecord). unless (close_table (stock_in k) two d) (Ok tt)) c.stock.ensures ∙ ap (λ (i : ℕ). unless (close_table (s.ledger.stocks i) two d) (Ok tt)) c.in_ok-stock.ensures.number in
+    exit_by_rest s (close u two d) (causes s u) (others s u two d) refl c.from_residual-in_err-admits_close.result _ c.from_residual-in_err-admits_close.ensures.1 (sym c.in_ok-stock.ensures.is)
     (unless_err (close_table (s.ledger.stocks u) two d) (of_deltas s.terms.listing s.ledger u two d) _ (sym table))
 
 pub returns-in_err-admits_deltas-clause-step : goal.returns-in_err-admits_deltas-clause-step
@@ -51,16 +51,16 @@ returns-in_err-admits_deltas-clause-step g c =
     let two : Source = source_of g.D.Delta.answer g.D.PricedDelta.at g.D.PricedDelta.worth c.args.two.now in
     let d : Source = source_of g.D.Delta.answer g.D.PricedDelta.at g.D.PricedDelta.worth c.args.closing.now in
     let u = c.args.underlying in
-    let table = c.in_ok-admits_close.ensures ∙ ap (λ (k : StockRecord). unless (close_table (stock_in k) two d) (Ok tt)) c.stock.ensures in
-    let deltas = c.in_err-admits_deltas.ensures ∙ (λ j. delta_verdict s.terms.listing.entities s.ledger (c.stock-2.ensures j).banned (c.sheet-at_two.ensures.lacking j) (c.sheet-at_close.ensures.lacking j)) in
-    exit_by_rest s (close u two d) (causes s u) (others s u two d) refl c.from_residual-in_err-admits_deltas.result _ c.from_residual-in_err-admits_deltas.ensures.1 (sym c.in_ok-admits_stock.ensures.is)
+    let table = c.in_ok-admits_close.ensures ∙ ap (λ (k : StockRecord). unless (close_table (stock_in k) two d) (Ok tt)) c.stock.ensures ∙ ap (λ (i : ℕ). unless (close_table (s.ledger.stocks i) two d) (Ok tt)) c.in_ok-stock.ensures.number in
+    let deltas = c.in_err-admits_deltas.ensures ∙ (λ j. delta_verdict s.terms.listing.entities s.ledger (c.stock-2.ensures j).banned (c.sheet-at_two.ensures.lacking j) (c.sheet-at_close.ensures.lacking j)) ∙ ap (λ (i : ℕ). delta_verdict s.terms.listing.entities s.ledger (s.ledger.stocks i).ban (lacks_delta s.terms.listing.contracts u two.delta) (lacks_delta s.terms.listing.contracts u d.delta)) c.in_ok-stock.ensures.number in
+    exit_by_rest s (close u two d) (causes s u) (others s u two d) refl c.from_residual-in_err-admits_deltas.result _ c.from_residual-in_err-admits_deltas.ensures.1 (sym c.in_ok-stock.ensures.is)
     (unless_ok (close_table (s.ledger.stocks u) two d) (of_deltas s.terms.listing s.ledger u two d) (sym table) ∙ sym deltas)
 
 -- no more are charged than there are entities
 charged_few : (g : given.Over) (c : goal.After-self-1 g) → c.close_stock-charged.result ≤ most_entities
 charged_few g c =
     let s : State = state_of g.B.Holds.held c.args.self.now in
-    let yes = is_open_by (is_open s.terms) Closed (stock_table s.terms.listing c.args.underlying) c.in_ok-admits_stock.ensures.is in
+    let yes = is_open_by (is_open s.terms) Closed (stock_table s.terms.listing c.args.underlying) c.in_ok-stock.ensures.is in
     let most = open_entities s.terms yes in
     let few = count_few s.terms.listing.entities _ in
     subst (λ (m : ℕ). m ≤ most_entities) (sym c.close_stock-charged.ensures.count) (le_trans few most)
@@ -83,18 +83,19 @@ returns-clause-step g c =
     let wc = c.sheet-at_close.ensures.weights in
     let cs = c.chain.ensures.contracts in
     let us = c.chain.ensures.underlying in
+    let num = c.in_ok-stock.ensures.number in
     let t = c.close_stock-charged.ensures in
     let turn : c.turn_by-turn.result ≡ turn_at s.terms.listing s.ledger u d =
     c.turn_by-turn.ensures
     ∙ (λ j. turn_by (stock_in (c.stock-3.ensures j)) (c.interest-interest.ensures j))
-    ∙ (λ j. turn_by (s.ledger.stocks u) (interest n (wc j) q)) in
+    ∙ (λ j. turn_by (s.ledger.stocks (num j)) (interest n (wc j) q)) in
     let count = t.count ∙ (λ j. charged_count n (turn j) (wt j) old q) in
     let base = t.base ∙ (λ j. closed_base n (within (cs j) (us j)) (turn j) (wt j) old q) in
-    let stocks = t.stocks ∙ (λ j. at (us j) (turned n (turn j) (wt j) old q (c.price.ensures j) (s.ledger.stocks (us j))) s.ledger.stocks) in
+    let stocks = t.stocks ∙ (λ j. at (num j) (turned n (turn j) (wt j) old q (c.price.ensures j) (s.ledger.stocks (num j))) s.ledger.stocks) in
     let few = charged_few g c in
     let number : to_z w64 c.close_stock-charged.result ≡ pos c.close_stock-charged.result = omega (arith, ints) in
-    let table = c.in_ok-admits_close.ensures ∙ ap (λ (k : StockRecord). unless (close_table (stock_in k) two d) (Ok tt)) c.stock.ensures in
-    let deltas = c.in_ok-admits_deltas.ensures ∙ (λ j. delta_verdict n s.ledger (c.stock-2.ensures j).banned (c.sheet-at_two.ensures.lacking j) (c.sheet-at_close.ensures.lacking j)) in
+    let table = c.in_ok-admits_close.ensures ∙ ap (λ (k : StockRecord). unless (close_table (stock_in k) two d) (Ok tt)) c.stock.ensures ∙ ap (λ (i : ℕ). unless (close_table (s.ledger.stocks i) two d) (Ok tt)) c.in_ok-stock.ensures.number in
+    let deltas = c.in_ok-admits_deltas.ensures ∙ (λ j. delta_verdict n s.ledger (c.stock-2.ensures j).banned (c.sheet-at_two.ensures.lacking j) (c.sheet-at_close.ensures.lacking j)) ∙ ap (λ (i : ℕ). delta_verdict s.terms.listing.entities s.ledger (s.ledger.stocks i).ban (lacks_delta s.terms.listing.contracts u two.delta) (lacks_delta s.terms.listing.contracts u d.delta)) c.in_ok-stock.ensures.number in
     (λ j. (Ok ((number ∙ ap pos count) j), record { terms = s.terms; ledger = record { book = s.ledger.book; base = base j; tickets = tickets_of (t.rest.0 j); days = days_of (t.rest.1 j); stocks = stocks j }; marks = marks_of (t.rest.1 j) }))
-    ∙ by_none s (close u two d) (causes s u) (others s u two d) refl (sym c.in_ok-admits_stock.ensures.is)
+    ∙ by_none s (close u two d) (causes s u) (others s u two d) refl (sym c.in_ok-stock.ensures.is)
     (unless_ok (close_table (s.ledger.stocks u) two d) (of_deltas s.terms.listing s.ledger u two d) (sym table) ∙ sym deltas)

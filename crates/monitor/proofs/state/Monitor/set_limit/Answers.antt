@@ -16,19 +16,19 @@ use Rattle.monitor.proofs.state.Monitor.set_limit.Goals as goal
 abbrev causes : State → ℕ → List (Bool × Refusal)
 causes s u = closed_table s.terms ++ stock_table s.terms.listing u
 
-pub returns-in_err-admits_stock-clause-step : goal.returns-in_err-admits_stock-clause-step
-returns-in_err-admits_stock-clause-step g c =
+pub returns-in_err-stock-clause-step : goal.returns-in_err-stock-clause-step
+returns-in_err-stock-clause-step g c =
     let s : State = state_of g.B.Holds.held c.args.self.now in
     let k : Call = set_limit c.args.underlying c.args.free_float c.args.deliveries.now in
     let v : Verdict = verdict_of (limit_asked c.args.free_float c.args.deliveries.now) in
-    exit_by_table s k (causes s c.args.underlying) v refl c.from_residual.result _ c.from_residual.ensures.1 (sym c.in_err-admits_stock.ensures.is)
+    exit_by_table s k (causes s c.args.underlying) v refl c.from_residual.result _ c.from_residual.ensures.1 (sym c.in_err-stock.ensures.is)
 
 pub returns-in_err-granted-clause-step : goal.returns-in_err-granted-clause-step
 returns-in_err-granted-clause-step g c =
     let s : State = state_of g.B.Holds.held c.args.self.now in
     let k : Call = set_limit c.args.underlying c.args.free_float c.args.deliveries.now in
     let v : Verdict = verdict_of (limit_asked c.args.free_float c.args.deliveries.now) in
-    exit_by_rest s k (causes s c.args.underlying) v refl c.from_residual-in_err-granted.result _ c.from_residual-in_err-granted.ensures.1 (sym c.in_ok-admits_stock.ensures.is) (ap verdict_of (sym c.in_err-granted.ensures.value))
+    exit_by_rest s k (causes s c.args.underlying) v refl c.from_residual-in_err-granted.result _ c.from_residual-in_err-granted.ensures.1 (sym c.in_ok-stock.ensures.is) (ap verdict_of (sym c.in_err-granted.ensures.value))
 
 pub returns-clause-step : goal.returns-clause-step
 returns-clause-step g c =
@@ -39,7 +39,8 @@ returns-clause-step g c =
     let v : Verdict = verdict_of (limit_asked f ds) in
     let ks : List StockRecord = c.args.self.now.inner.stocks in
     let granted = c.in_ok-granted.granted in
-    let h : u < length ks = search rules in
+    let n = c.in_ok-stock.ensures.number in
+    let h : c.in_ok-stock.stock.number < length ks = search rules in
     ap (λ (x : ℕ → Stock). (Ok (pos 0), record { terms = s.terms; ledger = record { book = s.ledger.book; base = s.ledger.base; tickets = s.ledger.tickets; days = s.ledger.days; stocks = x }; marks = s.marks }))
-    (at_set_by stock_in ks u _ no_record h ∙ ap (λ (n : ℕ). at u (with_limit (s.ledger.stocks u) n) s.ledger.stocks) (asked_is f ds granted c.in_ok-granted.ensures.value))
-    ∙ by_none s (set_limit u f ds) (causes s u) v refl (sym c.in_ok-admits_stock.ensures.is) (ap verdict_of (sym c.in_ok-granted.ensures.value))
+    (at_set_by stock_in ks c.in_ok-stock.stock.number _ no_record h ∙ (λ j. at (n j) (with_limit (s.ledger.stocks (n j)) (asked_is f ds granted c.in_ok-granted.ensures.value j)) s.ledger.stocks))
+    ∙ by_none s (set_limit u f ds) (causes s u) v refl (sym c.in_ok-stock.ensures.is) (ap verdict_of (sym c.in_ok-granted.ensures.value))
