@@ -9,6 +9,7 @@ use text::worded::Worded;
 use text::words::Words;
 
 // What a word of a line must be, or the fault that the line has where it is not.
+// A trait beside text's: the enums of `terms` can be given no trait of `text` here.
 pub(crate) trait Field {
     ghost field: { List ℕ → Result Self Fault };
 

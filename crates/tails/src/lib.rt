@@ -32,6 +32,7 @@ pub fn all_are<T: Worded + Drop>(words: Words<'_>, n: usize) -> bool
 #[derive(Clone, Copy)]
 pub struct Tail<'a, T> {
     words: Words<'a>,
+    // A count, and no `Take`: it goes to 0 where the values end.
     left: usize,
     of: PhantomData<T>,
 }

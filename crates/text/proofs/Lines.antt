@@ -101,13 +101,17 @@ one_word bs h =
 pub none_left : (bs : List ℕ) → None ≡ position (λ b. not (blank b)) bs → solid_pieces bs ≡ []
 none_left bs e = sym (past_blanks bs) ∙ at_drop_all solid_pieces bs (start bs) (place_cases (λ b. not (blank b)) bs None e)
 
-module _ (bs text : List ℕ) (i j : ℕ) (found : Some i ≡ position (λ b. not (blank b)) bs) (from : text ≡ take (length bs - i) (drop i bs)) (end : j ≡ position_or_len blank text) where
-  pub one_more : solid_pieces bs ≡ take j text ∷ solid_pieces (drop j text)
+module _ (bs text word rest : List ℕ) (i j : ℕ) (found : Some i ≡ position (λ b. not (blank b)) bs) (from : text ≡ take (length bs - i) (drop i bs)) (end : j ≡ position_or_len blank text) (front : word ≡ take j text) (back : rest ≡ drop j text) where
+  pub one_more : solid_pieces bs ≡ word ∷ solid_pieces rest
   one_more =
       let place = place_cases (λ b. not (blank b)) bs (Some i) found in
       let at : text ≡ drop (start bs) bs = from ∙ take_all (length bs - i) (drop i bs) (simp length-drop (omega arith)) ∙ ap (λ n. drop n bs) place.0 in
       let some : 0 < position_or_len blank text = rw at (starts_solid bs (omega (arith, place))) in
-      sym (past_blanks bs) ∙ ap solid_pieces (sym at) ∙ one_word text some ∙ ap (λ n. take n text ∷ solid_pieces (drop n text)) (sym end)
+      sym (past_blanks bs) ∙ ap solid_pieces (sym at) ∙ one_word text some ∙ ap (λ n. take n text ∷ solid_pieces (drop n text)) (sym end) ∙ (λ k. sym front k ∷ solid_pieces (sym back k))
+
+  -- which leaves fewer
+  pub one_fewer : length (solid_pieces rest) < length (solid_pieces bs)
+  one_fewer = omega (arith, ap length one_more)
 
 length_onto : (b : ℕ) (ps : List (List ℕ)) → length (solid (onto_first b ps)) ≤ 1 + length (solid ps)
 length_onto b [] = omega arith
