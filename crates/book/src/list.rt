@@ -42,7 +42,7 @@ impl<'a> List<'a> {
         }
     }
 
-    // The key of a pair.
+    // The key of a pair. The casts are of u32, which `usize` and `u64` hold; no `From` makes a usize of it.
     fn key(&self, entity: usize, contract: usize) -> Option<u64>
         ensures { result ≡ place_of self.now.entities self.now.contracts entity contract }
     {

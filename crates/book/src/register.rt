@@ -9,7 +9,7 @@ use std::marker::Model;
 use std::mem;
 use terms::refusal::Refusal;
 
-// The places, of which the first `len` are in use.
+// The places, of which the first `len` are in use: lent, so that a register has no memory of its own, and no map or Vec.
 #[derive(Drop)]
 pub struct Register<'a, V> {
     rows: &'a mut [Row<V>],

@@ -48,6 +48,7 @@ impl<'r, 'a, V: Quote> Delta for Quoted<'r, 'a, V> {
     ghost lawful = { λ s contract kind. V.lawful (told_by V.made s).price kind (row_of s contract) };
 
     fn delta(&self, contract: usize, kind: Kind) -> Option<i32> {
+        // No `From` makes a u64 of a number of type usize; the cast is proved to lose nothing.
         V::delta(self.price, kind, self.rows.find(contract as u64))
     }
 }

@@ -6,12 +6,13 @@ ghost use Rattle.handbook.specs.Replay.{meant, calls, Replayed, too_few};
 
 use book::position::Book;
 use monitor::state::Monitor;
-use terms::command::Command;
 use std::error::Error;
 use std::fmt;
+use terms::command::Command;
 use terms::refusal::Refusal;
 
-// Makes the call that the command stands for.
+// Makes the call that the command stands for. A match, and no closure in each command: commands are data, and the laws speak
+// of lists of them.
 pub fn apply<B: Book>(monitor: &mut Monitor<B>, command: &Command) -> Result<i64, Refusal>
     ensures step { (result, state_of B.Holds.held monitor.new) ≡ step (state_of B.Holds.held monitor.old) (meant command.now) }
     ensures same { monitor.new.book.ghost_name ≡ monitor.old.book.ghost_name }

@@ -138,6 +138,7 @@ impl<'b, 't, B: Book> Monitor<'b, 't, B> {
         let charged = self
             .inner
             .close_stock(&*self.book, stock, listing.entities, closing);
+        // Proved to lose nothing; `try_from` would ask for an answer where it did.
         Ok(charged as i64)
     }
 }

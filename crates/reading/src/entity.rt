@@ -35,6 +35,7 @@ impl Sheet {
     pub fn reading<H: Holds>(&self, holder: &H, entity: usize) -> (i64, i64, i64)
         ensures { result ≡ reading_of (weights_of self.now) (quantity_of (H.held holder.now)) entity }
     {
+        // A `for` over the contracts' numbers: a fold would take the two sums apart and make them anew at each.
         let mut long = 0;
         let mut short = 0;
         for c in 0..MOST_CONTRACTS {

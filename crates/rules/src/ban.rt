@@ -4,6 +4,8 @@ ghost use Rattle.rules.specs.Ban.{begins, ends};
 
 use crate::bounds::{BEGINS_AT, ENDS_AT};
 
+// Two comparisons, and no one function of the share: the rulebook says above the one, and at or below the other.
+
 // Whether open interest is above 95% of the limit.
 pub fn begins(limit: u64, interest: u128) -> bool
     ensures { result ≡ begins limit interest }

@@ -16,7 +16,7 @@ fn are_opposite(x: i64, y: i64) -> bool
     (x < 0 && 0 < y) || (y < 0 && 0 < x)
 }
 
-// The violated quantity, 0 where there is no violation.
+// The violated quantity, 0 where there is no violation: a number and no Option, since the rules charge by that 0 too.
 pub fn violated(x: i64, y: i64) -> u64
     ensures { result ≡ violation x y }
 {

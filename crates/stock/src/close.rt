@@ -48,6 +48,7 @@ impl Base {
     fn copy_entity<H: Holds>(&mut self, from: &H, chain: Chain<'_>, entity: Watched)
         ensures { base_of self.new.cells ≡ with_row (within chain.entry.contracts.now chain.entry.underlying) entity.number (quantity_of (H.held from.now) entity.number) (base_of self.old.cells) }
     {
+        // By number: the base and who is copied are asked by pair.
         for c in 0..MOST_CONTRACTS {
             if chain.has(c) {
                 self.copy_pair(from, entity, c);
@@ -115,6 +116,7 @@ impl Base {
     {
         *violations = [None; MOST_ENTITIES];
         let mut count = 0;
+        // By number: the base and the book are asked by it, and what is written through `iter_mut().take(..)` can't be known.
         for e in 0..entities.min(MOST_ENTITIES) {
             let violation = self.judge(book, closing, e);
             let charged = violation.is_some();
