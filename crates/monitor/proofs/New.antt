@@ -1,7 +1,6 @@
 -- A new monitor's tables hold nothing.
-use Rattle.std.proofs.Common.{◌≡◌, ℕ, false, T, get_or, replicate, pos, None, Option, refl, ap, ◌∙◌}
+use Rattle.std.proofs.Common.{◌≡◌, ℕ, false, get_or, replicate, pos, None, refl, ap, ◌∙◌}
 use Rattle.terms.specs.Bounds.{most_entities, most_underlyings, ticket_count}
-use Rattle.terms.specs.declared.command.Trade.{Trade}
 use Rattle.terms.specs.declared.mark.Mark.{Mark}
 use Rattle.terms.specs.declared.mark.Mark.TheVariants.{NetLong, NetShort, GrossLong, GrossShort}
 use Rattle.book.specs.Holding.{Holding}
@@ -9,9 +8,8 @@ use Rattle.model.specs.declared.parts.IndexRecord.{IndexRecord}
 use Rattle.model.specs.declared.parts.StockRecord.{StockRecord}
 use Rattle.model.specs.State.{Quantities, no_day, no_row, no_stock, new_ledger}
 use Rattle.stock.specs.Close.{quantity_or_zero, charge_or_zero}
-use Rattle.monitor.specs.Modest.{modest}
 use Rattle.monitor.specs.View.{tickets_of, no_index, no_record, days_of, stock_in, stocks_of, four, four_of, marks_of}
-use Rattle.monitor.proofs.Same.{same_everywhere, everywhere_replicate, everywhere_replicate_or}
+use Rattle.monitor.proofs.Same.{same_everywhere, everywhere_replicate_or}
 
 four_of_is : {A : Type 0} (a : A) (m : Mark) → four (four_of a) m ≡ a
 four_of_is a NetLong = refl
@@ -52,6 +50,3 @@ no_ledger b q p = λ i. record {
   days = λ u. no_days u i;
   stocks = λ u. no_stocks u i;
 }
-
-pub tickets_modest : (k : ℕ) → T (modest (get_or (replicate ticket_count None) k None))
-tickets_modest = everywhere_replicate (λ (o : Option Trade). T (modest o)) None ticket_count tt

@@ -1,14 +1,9 @@
 -- The first number that passes a test, and the first missing delta.
-use Rattle.std.proofs.Common.{◌≡◌, ℕ, zero, suc, ◌+◌, ◌<◌, Bool, true, false, cond, is_some, Some, None, Option, sym, refl, ap, ◌∙◌, subst, inl, inr, add-one, arith}
+use Rattle.std.proofs.Common.{◌≡◌, ℕ, zero, suc, ◌<◌, Bool, true, false, cond, is_some, Some, None, Option, sym, refl, ap, ◌∙◌, subst, inl, inr, arith}
 use Rattle.std.proofs.lemmas.Bool.{cases_lt, cond-true, both_ways, false≢true}
 use Rattle.terms.specs.Bounds.{most_contracts}
 use Rattle.reading.specs.Sums.{or_else, first_below}
 use Rattle.reading.specs.Missing.{first_needing, paired, with_first, missing, Missed, FirstMissing}
-
--- ---- a scan from below
--- one number more that does not pass
-pub first_more : (p : ℕ → Bool) (n : ℕ) → first_below n p ≡ None → p n ≡ false → first_below (n + 1) p ≡ None
-first_more p n h f = rw add-one (simp (h, f))
 
 -- the scan ends at i
 pub first_at : (p : ℕ → Bool) (i n : ℕ) → i < n → first_below i p ≡ None → p i ≡ true → first_below n p ≡ Some i
@@ -38,13 +33,6 @@ came p (suc n) = step p n (first_below n p) (p n) refl (came p n)
 module _ (n : ℕ) (lacks : ℕ → Bool) (needs : ℕ → ℕ → Bool) where
   abbrev wanted : ℕ → Bool
   wanted c = is_some (first_needing n lacks needs c)
-
-  -- a contract that lacks nothing, or that nobody needs
-  pub not_lacking : (c : ℕ) → false ≡ lacks c → wanted c ≡ false
-  not_lacking c f = rw (sym f) refl
-
-  pub not_needed : (c : ℕ) → first_below n (λ e. needs e c) ≡ None → wanted c ≡ false
-  not_needed c h = grind arith
 
   -- the scan ends at contract c and entity e
   pub missing_at : (c e : ℕ) → c < most_contracts → first_below c wanted ≡ None → true ≡ lacks c → e < n → first_below e (λ k. needs k c) ≡ None → true ≡ needs e c → missing n lacks needs ≡ Some (c, e)

@@ -1,11 +1,11 @@
 -- How large a part and a reading can be.
-use Rattle.std.proofs.Common.{◌≡◌, ℕ, ◌+◌, ◌*◌, ◌≤◌, ℤ, pos, negsuc, ◌-ℤ◌, nat_abs, arith}
+use Rattle.std.proofs.Common.{◌≡◌, ℕ, ◌*◌, ◌≤◌, ℤ, pos, negsuc, ◌-ℤ◌, nat_abs, arith}
 use Rattle.std.proofs.lemmas.Nat.{mul-le}
 use Rattle.std.proofs.lemmas.Int.{ints, unsigned_abs-mul}
 use Rattle.terms.specs.Bounds.{quantity_bound, most_contracts}
 use Rattle.delta.specs.Sources.{delta_bound}
 use Rattle.reading.specs.Sums.{sum_below}
-use Rattle.reading.specs.Readings.{part, part_bound, reading_bound, up, down, net, long, short, interest, gross}
+use Rattle.reading.specs.Readings.{part, part_bound, reading_bound, up, down, net, long, short}
 use Rattle.reading.proofs.Sums.{sum_small, net_is}
 
 pub part_small : (q w : ℤ) → nat_abs q ≤ quantity_bound → nat_abs w ≤ delta_bound → nat_abs (part q w) ≤ part_bound
@@ -47,10 +47,3 @@ module _ (w : ℕ → ℤ) (q : ℕ → ℕ → ℤ) (light : (c : ℕ) → nat_
 
   pub net_small : (e : ℕ) → nat_abs (net w q e) ≤ reading_bound
   net_small e = difference_small (net w q e) (long w q e) (short w q e) reading_bound (net_is w q e) (long_small e) (short_small e)
-
-  pub interest_small : (n : ℕ) → interest n w q ≤ n * reading_bound
-  interest_small = sum_small (λ e. nat_abs (net w q e)) reading_bound net_small
-
-  pub gross_small : (n : ℕ) → gross n w q ≤ n * (2 * reading_bound)
-  gross_small =
-      sum_small (λ e. long w q e + short w q e) (2 * reading_bound) (λ e. omega (arith, long_small e, short_small e))

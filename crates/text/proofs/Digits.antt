@@ -21,9 +21,6 @@ abbrev pub from : ℕ → ℕ → List ℕ → Option ℕ
 from v i ds = option_map capped (digits_on v (drop i ds))
 
 module _ (v i : ℕ) (ds : List ℕ) where
-  pub stops : i < length ds → false ≡ is_ascii_digit (get_or ds i 0) → from v i ds ≡ None
-  stops lt e = at_drop_more (λ l. option_map capped (digits_on v l)) ds i 0 lt ∙ simp (sym e)
-
   pub goes : (w : ℕ) → i < length ds → true ≡ is_ascii_digit (get_or ds i 0) → w ≡ capped (capped (v * 10) + (get_or ds i 0 - 48)) → from w (i + 1) ds ≡ from v i ds
   goes w lt e h =
       let same : w ≡ capped (v * 10 + (get_or ds i 0 - 48)) = omega arith in

@@ -14,8 +14,5 @@ same c =
 fits : (c : goal.After-from) → SFits w64 (part c.args.quantity c.args.weight)
 fits c = omega (arith, ints, part_small c.args.quantity c.args.weight c.requires.quantity c.requires.weight)
 
-pub overflow_mul-result : goal.overflow_mul-result
-overflow_mul-result c = rw (same c) (fits c)
-
 pub returns : goal.returns
 returns c = rw (same c) (to_z-of_z w64 (part c.args.quantity c.args.weight) (fits c))

@@ -1,17 +1,11 @@
-use Rattle.std.proofs.Common.{◌≡◌, ℕ, T, List, get_or, None, Option, sym, refl, ap, ◌∙◌, subst, ap₂}
-use Rattle.terms.specs.declared.command.Trade.{Trade}
+use Rattle.std.proofs.Common.{◌≡◌, refl, ap, ◌∙◌, ap₂}
 use Rattle.book.specs.declared.position.Shape.{Shape}
 use Rattle.book.specs.Holding.{Holding}
 use Rattle.model.specs.Opening.{Terms, opening_from, terms_of, terms_from, listing_from}
 use Rattle.model.specs.State.{State, Ledger, Marks}
-use Rattle.monitor.specs.Modest.{modest}
 use Rattle.monitor.specs.View.{ledger_of, marks_of}
 use Rattle.monitor.specs.Listed.{terms_in}
-use Rattle.monitor.proofs.New.{tickets_modest}
 use Rattle.monitor.proofs.state.Monitor.open.Goals as goal
-
-pub invariant_of-result : goal.invariant_of-result
-invariant_of-result g c = record { modest = subst (λ (ts : List (Option Trade)). (k : ℕ) → T (modest (get_or ts k None))) (sym c.new-inner.ensures.tickets) tickets_modest }
 
 pub returns : goal.returns
 returns g c =

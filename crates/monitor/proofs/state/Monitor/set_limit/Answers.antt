@@ -6,7 +6,7 @@ use Rattle.model.specs.Causes.{Verdict, verdict_of}
 use Rattle.model.specs.State.{State, Stock, at}
 use Rattle.model.specs.Stocks.{stock_table, with_limit}
 use Rattle.model.specs.Calls.{Call, set_limit, closed_table}
-use Rattle.model.proofs.Steps.{exit_by_table, exit_by_rest, by_none}
+use Rattle.model.proofs.Steps.{exit_by_table, by_none}
 use Rattle.monitor.specs.View.{no_record, stock_in, state_of}
 use Rattle.monitor.proofs.Same.{at_set_by}
 use Rattle.monitor.proofs.Limited.{asked_is}
@@ -22,13 +22,6 @@ returns-in_err-stock-clause-step g c =
     let k : Call = set_limit c.args.underlying c.args.free_float c.args.deliveries.now in
     let v : Verdict = verdict_of (limit_asked c.args.free_float c.args.deliveries.now) in
     exit_by_table s k (causes s c.args.underlying) v refl c.from_residual.result _ c.from_residual.ensures.1 (sym c.in_err-stock.ensures.is)
-
-pub returns-in_err-granted-clause-step : goal.returns-in_err-granted-clause-step
-returns-in_err-granted-clause-step g c =
-    let s : State = state_of g.B.Holds.held c.args.self.now in
-    let k : Call = set_limit c.args.underlying c.args.free_float c.args.deliveries.now in
-    let v : Verdict = verdict_of (limit_asked c.args.free_float c.args.deliveries.now) in
-    exit_by_rest s k (causes s c.args.underlying) v refl c.from_residual-in_err-granted.result _ c.from_residual-in_err-granted.ensures.1 (sym c.in_ok-stock.ensures.is) (ap verdict_of (sym c.in_err-granted.ensures.value))
 
 pub returns-clause-step : goal.returns-clause-step
 returns-clause-step g c =
