@@ -9,7 +9,7 @@ use Rattle.model.specs.declared.parts.StockRecord.{StockRecord}
 use Rattle.model.specs.State.{Quantities, no_day, no_row, no_stock, new_ledger}
 use Rattle.stock.specs.Close.{quantity_or_zero, charge_or_zero}
 use Rattle.monitor.specs.View.{tickets_of, no_index, no_record, days_of, stock_in, stocks_of, four, four_of, marks_of}
-use Rattle.monitor.proofs.Same.{same_everywhere, everywhere_replicate_or}
+use Rattle.monitor.proofs.Same.{same_everywhere, everywhere_replicate}
 
 four_of_is : {A : Type 0} (a : A) (m : Mark) → four (four_of a) m ≡ a
 four_of_is a NetLong = refl
@@ -25,16 +25,16 @@ abbrev pub new_stock : StockRecord
 new_stock = record { limit = None; banned = false; violations = replicate most_entities None }
 
 no_mark : (u e : ℕ) (m : Mark) → marks_of (replicate most_underlyings new_index) u e m ≡ no_row
-no_mark u e m = everywhere_replicate_or (λ (x : IndexRecord). four (get_or x.marks e (four_of no_row)) m ≡ no_row) new_index no_index most_underlyings (ap (λ f. four f m) (same_everywhere most_entities e (four_of no_row)) ∙ four_of_is no_row m) (four_of_is no_row m) u
+no_mark u e m = everywhere_replicate (λ (x : IndexRecord). four (get_or x.marks e (four_of no_row)) m ≡ no_row) new_index no_index most_underlyings (ap (λ f. four f m) (same_everywhere most_entities e (four_of no_row)) ∙ four_of_is no_row m) (four_of_is no_row m) u
 
 pub no_marks : marks_of (replicate most_underlyings new_index) ≡ (λ u e m. no_row)
 no_marks = λ i u e m. no_mark u e m i
 
 no_days : (u : ℕ) → days_of (replicate most_underlyings new_index) u ≡ no_day
-no_days u = everywhere_replicate_or (λ (x : IndexRecord). x.day ≡ no_day) new_index no_index most_underlyings refl refl u
+no_days u = everywhere_replicate (λ (x : IndexRecord). x.day ≡ no_day) new_index no_index most_underlyings refl refl u
 
 no_stocks : (u : ℕ) → stocks_of (replicate most_underlyings new_stock) u ≡ no_stock
-no_stocks u = everywhere_replicate_or (λ (x : StockRecord). stock_in x ≡ no_stock) new_stock no_record most_underlyings (λ i. record { limit = None; ban = false; violated = λ e. quantity_or_zero (same_everywhere most_entities e None i); charge = λ e. charge_or_zero (same_everywhere most_entities e None i) }) refl u
+no_stocks u = everywhere_replicate (λ (x : StockRecord). stock_in x ≡ no_stock) new_stock no_record most_underlyings (λ i. record { limit = None; ban = false; violated = λ e. quantity_or_zero (same_everywhere most_entities e None i); charge = λ e. charge_or_zero (same_everywhere most_entities e None i) }) refl u
 
 pub no_ledger : (b : Holding) (q : Quantities) → q ≡ (λ e c. pos 0) → record {
   book = b;

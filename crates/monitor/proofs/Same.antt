@@ -10,13 +10,10 @@ same_everywhere (suc n) zero x = refl
 same_everywhere (suc n) (suc k) x = same_everywhere n k x
 
 -- what holds of a value, and of what stands outside, holds everywhere in a list of that value
-pub everywhere_replicate_or : {A : Type 0} (P : A → Type 0) (x d : A) (n : ℕ) → P x → P d → (k : ℕ) → P (get_or (replicate n x) k d)
-everywhere_replicate_or P x d zero p q k = q
-everywhere_replicate_or P x d (suc n) p q zero = p
-everywhere_replicate_or P x d (suc n) p q (suc k) = everywhere_replicate_or P x d n p q k
-
-pub everywhere_replicate : {A : Type 0} (P : A → Type 0) (x : A) (n : ℕ) → P x → (k : ℕ) → P (get_or (replicate n x) k x)
-everywhere_replicate P x n p k = everywhere_replicate_or P x x n p p k
+pub everywhere_replicate : {A : Type 0} (P : A → Type 0) (x d : A) (n : ℕ) → P x → P d → (k : ℕ) → P (get_or (replicate n x) k d)
+everywhere_replicate P x d zero p q k = q
+everywhere_replicate P x d (suc n) p q zero = p
+everywhere_replicate P x d (suc n) p q (suc k) = everywhere_replicate P x d n p q k
 
 pub everywhere_at : {A : Type 0} (P : A → Type 0) (k : ℕ) (a : A) (f : ℕ → A) → ((j : ℕ) → P (f j)) → P a → (j : ℕ) → P (at k a f j)
 everywhere_at P k a f h p j = cond_both (eqb j k) a (f j) P (λ _. p) (λ _. h j)
