@@ -28,7 +28,7 @@ impl Base {
         ensures { gridded most_entities most_contracts result.cells ≡ blank most_entities most_contracts most_pairs }
     {
         Base {
-            cells: [0; MOST_PAIRS],
+            cells: [0i64; MOST_PAIRS],
         }
     }
 
