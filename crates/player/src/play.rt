@@ -11,8 +11,8 @@ use monitor::state::Monitor;
 use opening::opened::Opening;
 use opening::setup::Setup;
 use std::alloc::Global;
-use terms::limits::Limits;
 use std::io::{BufRead, BufReader, Read, Split, Write};
+use terms::limits::Limits;
 
 // The lines of an input, without their line feeds.
 type Lines<R> = Split<BufReader<R>>;
@@ -42,12 +42,7 @@ fn serve_all<R: Read + Drop, W: Write + Drop, B: Book>(
     book: &mut B,
 ) -> anyhow::Result<()> {
     let shape = book.shape();
-    let mut monitor = Monitor::open(
-        book,
-        setup.contracts(),
-        setup.underlyings(),
-        limits,
-    );
+    let mut monitor = Monitor::open(book, setup.contracts(), setup.underlyings(), limits);
     if monitor.is_open() {
         notices.opened(shape)?;
     } else {
@@ -86,11 +81,7 @@ fn serve_over<R: Read + Drop, W: Write + Drop>(
                 value: 0i64,
             };
             let mut rows = vec![in heap; blank; book.places]?;
-            let mut list = List::new(
-                &mut rows,
-                narrow(book.entities),
-                narrow(book.contracts),
-            );
+            let mut list = List::new(&mut rows, narrow(book.entities), narrow(book.contracts));
             serve_all(lines, notices, setup, limits, &mut list)
         }
     }
