@@ -9,20 +9,28 @@ shift
 [ $# -gt 0 ] || set -- $(cd "crates/$crate/must-fail" && ls | sed 's/\.edit$//')
 status=0
 for label in "$@"; do
-    edit=crates/$crate/must-fail/$label.edit
-    file=crates/$crate/$(sed -n 's/^file: //p' "$edit")
-    kept=$(mktemp)
-    cp "$file" "$kept"
-    python3 - "$edit" "$file" <<'PY'
+    kept=$(mktemp -d)
+    cp -R "crates/$crate/src" "$kept/src"
+    python3 - "crates/$crate" "crates/$crate/must-fail/$label.edit" <<'PY'
 import sys
-parts = dict(line.rstrip("\n").split(": ", 1) for line in open(sys.argv[1]))
-text = open(sys.argv[2]).read()
-assert text.count(parts["old"]) == 1, "the old text must stand once"
-open(sys.argv[2], "w").write(text.replace(parts["old"], parts["new"]))
+
+# An edit names a file, and then old and new texts of it in pairs; it may go on with another file.
+path = old = None
+for line in open(sys.argv[2]):
+    key, value = line.rstrip("\n").split(": ", 1)
+    if key == "file":
+        path = f"{sys.argv[1]}/{value}"
+    elif key == "old":
+        old = value
+    else:
+        text = open(path).read()
+        assert text.count(old) == 1, f"the old text must stand once: {old}"
+        open(path, "w").write(text.replace(old, value))
 PY
     out=$(cd "crates/$crate" && rt check 2>&1)
-    cp "$kept" "$file"
-    rm -f "$kept"
+    rm -rf "crates/$crate/src"
+    mv "$kept/src" "crates/$crate/src"
+    rm -rf "$kept"
     if echo "$out" | grep -q '^logic=proved'; then
         echo "$crate/$label: STILL PROVED"
         status=1

@@ -42,12 +42,14 @@ impl<'a> List<'a> {
         }
     }
 
-    // The key of a pair. The casts are of u32, which `usize` and `u64` hold; no `From` makes a usize of it.
+    // The key of a pair. No one function with the grid's place: sides of 32 bits keep the product in 64, and there it is the cells that
+    // bound it.
     fn key(&self, entity: usize, contract: usize) -> Option<u64>
         ensures { result ≡ place_of self.now.entities self.now.contracts entity contract }
     {
+        // No `From` goes between usize and the other two; the casts are proved to lose nothing.
         if entity < self.entities as usize && contract < self.contracts as usize {
-            Some(entity as u64 * self.contracts as u64 + contract as u64)
+            Some(entity as u64 * u64::from(self.contracts) + contract as u64)
         } else {
             None
         }
@@ -79,6 +81,7 @@ impl<'a> Book for List<'a> {
     #[tactic(auto, unfolding(crate::specs::Listed::listed))]
     fn shape(&self) -> Shape {
         Shape {
+            // As in `key`.
             entities: self.entities as usize,
             contracts: self.contracts as usize,
             capacity: self.register.capacity(),

@@ -6,7 +6,7 @@ use terms::bounds::QUANTITY_BOUND;
 use terms::refusal::Refusal;
 
 // The numbers of entities, of contracts and of pairs that may be non-zero.
-#[derive(Clone, Copy)]
+#[derive(Clone, Copy, PartialEq, Eq, Debug)]
 pub struct Shape {
     pub entities: usize,
     pub contracts: usize,
@@ -14,7 +14,7 @@ pub struct Shape {
 }
 
 // What has a quantity for each pair: `held` is what it means.
-// A pair stays two numbers: each call makes it anew of two loop variables, so a struct would only be taken apart again.
+// A pair stays two numbers: the sums make it anew at each step of two loops, and commands carry it among other fields.
 pub trait Holds {
     ghost held: { Self → Holding };
 

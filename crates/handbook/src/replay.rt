@@ -55,6 +55,7 @@ pub fn replay<B: Book>(
     if commands.len() > answers.len() {
         return Err(TooFewRows);
     }
+    // By place: what is written through an adapter of `iter_mut` can't be known.
     for (place, command) in commands.iter().enumerate() {
         answers[place] = apply(monitor, command);
     }

@@ -85,6 +85,7 @@ fn named<T: Copy>(table: &[(&str, T)], word: &[u8]) -> Result<T, Fault>
     row.map(|row| row.1).ok_or(Fault::UnknownWord)
 }
 
+// The impls differ in their tables alone; a table as a constant of the trait would be a second name for its ghost.
 impl Field for Verb {
     ghost field = { name_in verbs };
 

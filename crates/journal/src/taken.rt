@@ -1,5 +1,6 @@
 // Words taken from a line, each as what it must be. specs/Taken.antt says what that is.
-ghost use Rattle.std.specs.Prelude.{◌≡◌, ℕ, List, drop, Result};
+ghost use Rattle.std.specs.Prelude.{◌≡◌, ℕ, List, drop, ok_or, Result};
+ghost use Rattle.replies.specs.declared.fault.Fault.TheVariants.{NotNumber};
 ghost use Rattle.replies.specs.declared.fault.Fault.{Fault};
 ghost use Rattle.journal.specs.Taken.{counted, numeral, unsigned_numeral, next_by, ranged, next_up_to};
 ghost use Rattle.text.specs.Words.{to_come};
@@ -19,11 +20,19 @@ pub(crate) trait Field {
         ensures { result ≡ field word.now };
 }
 
+// A word that must be a number, of any type that a word may be read as.
+fn number<T: Worded>(word: &[u8]) -> Result<T, Fault>
+    ensures { result ≡ ok_or (T.worded word.now) NotNumber }
+{
+    T::of_word(word).ok_or(Fault::NotNumber)
+}
+
+// One impl for each type: one over every `Worded` would overlap with those of the names.
 impl Field for i64 {
     ghost field = { numeral };
 
     fn of_word(word: &[u8]) -> Result<i64, Fault> {
-        <i64 as Worded>::of_word(word).ok_or(Fault::NotNumber)
+        number(word)
     }
 }
 
@@ -31,7 +40,7 @@ impl Field for usize {
     ghost field = { unsigned_numeral };
 
     fn of_word(word: &[u8]) -> Result<usize, Fault> {
-        <usize as Worded>::of_word(word).ok_or(Fault::NotNumber)
+        number(word)
     }
 }
 
@@ -39,7 +48,7 @@ impl Field for u64 {
     ghost field = { unsigned_numeral };
 
     fn of_word(word: &[u8]) -> Result<u64, Fault> {
-        <u64 as Worded>::of_word(word).ok_or(Fault::NotNumber)
+        number(word)
     }
 }
 

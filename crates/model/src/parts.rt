@@ -21,8 +21,8 @@ pub struct Day {
 }
 
 // One mark: whether it is sighted, how often it was made provisional, its largest value then, and the largest value with
-// which the last settlement kept it as a final breach. A mark that was never provisional has a count and a largest value
-// like any other: those of none, 0.
+// which the last settlement kept it as a final breach. Count and largest value are numbers, and 0 before the first, since the rules
+// say that the one rises and the other keeps the largest.
 #[derive(Clone, Copy, PartialEq, Eq, Debug)]
 pub struct MarkRow {
     pub sighted: bool,
@@ -41,14 +41,14 @@ pub struct Four<T> {
 }
 
 // What is kept of an index: its day, and the marks of each entity.
-#[derive(Clone, Copy)]
+#[derive(Clone, Copy, PartialEq, Eq, Debug)]
 pub struct IndexRecord {
     pub day: Day,
     pub marks: [Four<MarkRow>; MOST_ENTITIES],
 }
 
 // What is kept of a stock: its market-wide limit once it is set, whether it is in a ban, and whom its last close found in violation.
-#[derive(Clone, Copy)]
+#[derive(Clone, Copy, PartialEq, Eq, Debug)]
 pub struct StockRecord {
     pub limit: Option<u64>,
     pub banned: bool,

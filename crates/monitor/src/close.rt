@@ -33,7 +33,8 @@ fn is_untimely(banned: bool, two: u64, closing: u64) -> bool
     closing != CLOSE_MINUTE || banned && two != TWO_MINUTE
 }
 
-// UNSET, TIME, and PRICE for the closing price alone.
+// UNSET, TIME, and PRICE for the closing price alone. The two o'clock source and the closing one are two parameters here and below:
+// a pair would have three types, one of sources, one of sheets, one of what these lack.
 fn admits_close<D: PricedDelta>(stock: &StockRecord, two: &D, closing: &D) -> Result<(), Refusal>
     ensures { result ≡ unless (close_table (stock_in stock.now) (source_of D.Delta.answer D.PricedDelta.at D.PricedDelta.worth two.now) (source_of D.Delta.answer D.PricedDelta.at D.PricedDelta.worth closing.now)) (Ok tt) }
 {

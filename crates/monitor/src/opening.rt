@@ -25,10 +25,7 @@ fn is_sound(underlyings: &[Underlying], contract: Contract) -> bool
     let Some(underlying) = underlyings.get(contract.underlying) else {
         return false;
     };
-    match (contract.kind, *underlying) {
-        (Kind::Future, Underlying::Index) => false,
-        _ => true,
-    }
+    (contract.kind, *underlying) != (Kind::Future, Underlying::Index)
 }
 
 fn are_sound(underlyings: &[Underlying], contracts: &[Contract]) -> bool

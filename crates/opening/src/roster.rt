@@ -1,4 +1,5 @@
-// A list of at most N values, in an array. No `ArrayVec`: that fills its unused places with a default, and a contract has none.
+// A list of at most N values, in an array. No `ArrayVec`: that fills its unused
+// places with `Default`, and a default contract would be one that nobody declared.
 ghost use Rattle.std.specs.Prelude.{◌≡◌, ◌≤◌, [], ◌∷◌, ◌++◌, List, length, take, is_ok, if◌then◌else◌};
 ghost use Rattle.opening.specs.Rosters.{room_for};
 

@@ -10,7 +10,8 @@ use std::io::Write;
 use terms::command::Command;
 use terms::refusal::Refusal;
 
-// Makes one call and prints its answer.
+// Makes one call and prints its answer: through `replay`, on whose contract the laws stand. Notices and monitor are two parameters:
+// the notices are there before the monitor, and after it.
 fn call<W: Write + Drop, B: Book>(
     notices: &mut Notices<W>,
     monitor: &mut Monitor<B>,

@@ -8,7 +8,7 @@ ghost use Rattle.stock.specs.Close.{base_of};
 use book::position::Holds;
 use terms::bounds::{MOST_CONTRACTS, MOST_ENTITIES, MOST_PAIRS};
 
-// The quantity of each pair, 32 to an entity.
+// The quantity of each pair, 32 to an entity. A table of its own, and no `Grid`: that is lent its cells, and the project names this array.
 #[derive(Drop)]
 pub struct Base {
     cells: [i64; MOST_PAIRS],

@@ -13,6 +13,10 @@ all_are f ws = list_all (λ w. is_some (f w)) ws
 abbrev pub values_of : {X : Type 0} → (List ℕ → Option X) → List (List ℕ) → List X
 values_of f ws = some_prefix (map f ws)
 
--- the values that a cursor has still to give
+-- the words that a cursor has still to read
+abbrev pub words_left : {X : Type 0} → Tail X → List (List ℕ)
+words_left t = take t.left (to_come t.words)
+
+-- the values that it has still to give
 abbrev pub left_of : {X : Type 0} → (List ℕ → Option X) → Tail X → List X
-left_of f t = values_of f (take t.left (to_come t.words))
+left_of f t = values_of f (words_left t)

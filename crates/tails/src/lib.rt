@@ -4,7 +4,7 @@
 ghost use Rattle.std.specs.Prelude.{◌≡◌, take, drop};
 ghost use Rattle.std.specs.Iterator.{YieldsFirst, item_count};
 ghost use Rattle.text.specs.Words.{to_come};
-ghost use Rattle.tails.specs.Tails.{all_are, values_of, left_of};
+ghost use Rattle.tails.specs.Tails.{all_are, words_left, left_of};
 
 use std::marker::PhantomData;
 use text::worded::Worded;
@@ -40,13 +40,20 @@ pub struct Tail<'a, T> {
 impl<'a, T: Worded> Tail<'a, T> {
     // The values of the next `n` words.
     pub fn new(words: Words<'a>, n: usize) -> Tail<'a, T>
-        ensures { left_of T.worded result ≡ values_of T.worded (take n (to_come words.entry)) }
+        ensures { words_left result ≡ take n (to_come words.entry) }
     {
         Tail {
             words,
             left: n,
             of: PhantomData,
         }
+    }
+
+    // The words that are left, as values of another type.
+    pub fn read_as<U: Worded>(self) -> Tail<'a, U>
+        ensures { words_left result ≡ words_left self.entry }
+    {
+        Tail::new(self.words, self.left)
     }
 }
 

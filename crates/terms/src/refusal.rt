@@ -27,7 +27,7 @@ pub enum Refusal {
 }
 
 impl Refusal {
-    // The number that is returned for this cause. A method, since `u8::from` would not say that it is the table's number.
+    // The number that is returned for this cause. A method: `u8::from(cause)` at a call would not tell which number.
     pub fn number(self) -> u8
         ensures { result ≡ number_of self }
     {

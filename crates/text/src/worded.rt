@@ -35,7 +35,7 @@ impl Worded for usize {
     }
 }
 
-// An unsigned number.
+// An unsigned number. Beside the one for usize: no trait of the library gives a type's largest value.
 impl Worded for u64 {
     ghost worded = { unsigned_of };
 

@@ -114,7 +114,7 @@ pub fn halves(word: &[u8]) -> (&[u8], &[u8])
     }
 }
 
-// Whether the word is this name.
+// Whether the word is this name: a function, since callers cite its equation.
 pub fn is(word: &[u8], name: &str) -> bool
     ensures { result ≡ bytes_eq word.now name.now }
 {
