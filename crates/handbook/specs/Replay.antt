@@ -1,21 +1,30 @@
--- What replaying a list of commands does, and what holds of every run.
+-- What replaying a list of requests does, and what holds of every run.
 use Rattle.std.specs.Prelude.{◌≡◌, Bool, cond, List, ◌++◌, map, length, drop, nat_le, codes, ℕ}
 use Rattle.terms.specs.declared.command.Command.{Command}
 use Rattle.terms.specs.declared.command.Command.TheVariants.{Post, Entry, Confirm}
+use Rattle.delta.specs.Sources.{Source}
 use Rattle.model.specs.Causes.{Answer}
 use Rattle.model.specs.State.{State}
-use Rattle.model.specs.Calls.{Call, post, entry, confirm}
+use Rattle.model.specs.Calls.{Call, post, entry, confirm, set_limit, close}
 use Rattle.model.specs.Runs.{Run, outcome_from, answers_from, outcome, followed_by}
 use Rattle.model.specs.Handbook.{Handbook}
+use Rattle.handbook.specs.declared.request.Request.{Request}
+use Rattle.handbook.specs.declared.request.Request.TheVariants.{Posting, SetLimit, Close}
 
 -- the call that a command stands for
-abbrev pub meant : Command → Call
-meant (Post e c x) = post e c x
-meant (Entry k d) = entry k d
-meant (Confirm k) = confirm k
+abbrev pub posting : Command → Call
+posting (Post e c x) = post e c x
+posting (Entry k d) = entry k d
+posting (Confirm k) = confirm k
 
-abbrev pub calls : List Command → List Call
-calls cs = map meant cs
+-- the call that a request stands for, by what its sources mean
+abbrev pub meant : {D : Type 0} → (D → Source) → Request D → Call
+meant priced (Posting k) = posting k
+meant priced (SetLimit u f ds) = set_limit u f ds.now
+meant priced (Close u two d) = close u (priced two) (priced d)
+
+abbrev pub calls : {D : Type 0} → (D → Source) → List (Request D) → List Call
+calls priced rs = map (meant priced) rs
 
 -- the calls cs were replayed on the monitor s with these rows, which left s' and rows'; did tells whether they were made
 pub record Replayed (s : State) (cs : List Call) (rows : List Answer) (did : Bool) (s' : State) (rows' : List Answer) : Type 0 where

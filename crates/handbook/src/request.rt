@@ -1,0 +1,19 @@
+// What a monitor may be called for, as data.
+use terms::command::Command;
+
+// Days of deliveries are lent as a slice; delta sources of any make are held by value.
+#[derive(Clone, Copy, PartialEq, Eq, Debug, Drop)]
+pub enum Request<'d, D> {
+    // A posting, or the entry or confirmation of a custodial trade.
+    Posting(Command),
+    SetLimit {
+        underlying: usize,
+        free_float: u64,
+        deliveries: &'d [u64],
+    },
+    Close {
+        underlying: usize,
+        two: D,
+        closing: D,
+    },
+}
