@@ -1,4 +1,5 @@
 pub mod Bounds
 pub mod Forms
 pub mod Names
+pub mod Said
 pub mod Taken

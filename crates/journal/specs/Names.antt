@@ -9,6 +9,8 @@ use Rattle.terms.specs.declared.kind.Underlying.{Underlying}
 use Rattle.terms.specs.declared.kind.Underlying.TheVariants.{Index, Stock}
 use Rattle.journal.specs.declared.line.Layout.{Layout}
 use Rattle.journal.specs.declared.line.Layout.TheVariants as layout
+use Rattle.journal.specs.declared.line.Make.{Make}
+use Rattle.journal.specs.declared.line.Make.TheVariants.{Published, Settlement}
 use Rattle.journal.specs.declared.names.Topic.{Topic}
 use Rattle.journal.specs.declared.names.Topic.TheVariants as topic
 use Rattle.journal.specs.declared.names.Verb.{Verb}
@@ -34,28 +36,28 @@ verbs =
     ∷ (codes "entry", verb.Entry)
     ∷ (codes "confirm", verb.Confirm)
     ∷ (codes "ask", verb.Ask)
+    ∷ (codes "limit", verb.Limit)
+    ∷ (codes "close", verb.Close)
     ∷ (codes "snapshot", verb.Later)
     ∷ (codes "cure", verb.Later)
     ∷ (codes "cash", verb.Later)
     ∷ (codes "holding", verb.Later)
     ∷ (codes "settle", verb.Later)
     ∷ (codes "report", verb.Later)
-    ∷ (codes "limit", verb.Later)
-    ∷ (codes "close", verb.Later)
     ∷ []
 
 -- the word behind `ask`
 abbrev pub topics : List (List ℕ × Topic)
 topics =
     (codes "quantity", topic.Quantity)
-    ∷ (codes "base", topic.Later)
-    ∷ (codes "limit", topic.Later)
-    ∷ (codes "ban", topic.Later)
-    ∷ (codes "violated", topic.Later)
-    ∷ (codes "charge", topic.Later)
+    ∷ (codes "base", topic.Base)
+    ∷ (codes "limit", topic.Limit)
+    ∷ (codes "ban", topic.Ban)
+    ∷ (codes "violated", topic.Violated)
+    ∷ (codes "charge", topic.Charge)
+    ∷ (codes "notional", topic.Notional)
+    ∷ (codes "reading", topic.Reading)
     ∷ (codes "mark", topic.Later)
-    ∷ (codes "reading", topic.Later)
-    ∷ (codes "notional", topic.Later)
     ∷ []
 
 -- the word behind `book`
@@ -69,3 +71,7 @@ underlyings = (codes "index", Index) ∷ (codes "stock", Stock) ∷ []
 -- the last word of `contract`
 abbrev pub kinds : List (List ℕ × Kind)
 kinds = (codes "future", Future) ∷ (codes "call", Call) ∷ (codes "put", Put) ∷ []
+
+-- the first word of a source
+abbrev pub makes : List (List ℕ × Make)
+makes = (codes "published", Published) ∷ (codes "settlement", Settlement) ∷ []

@@ -1,4 +1,5 @@
-// What a line of the journal says.
+// What a line of the journal says. Deliveries and rows are cursors over the line, and each of their words is a value.
+use tails::Tail;
 use terms::command::Command;
 use terms::kind::{Contract, Underlying};
 use terms::limits::Limits;
@@ -28,16 +29,74 @@ pub enum Declaration {
     Open,
 }
 
+// What a source is made from: published deltas, or the settlement's strikes.
 #[derive(Clone, Copy, PartialEq, Eq, Debug)]
-pub enum Question {
-    Quantity { entity: usize, contract: usize },
+pub enum Make {
+    Published,
+    Settlement,
 }
 
-#[derive(Clone, Copy, PartialEq, Eq, Debug)]
-pub enum Line {
+// A source of deltas, with its rows: a contract, and its delta or its strike.
+#[derive(Clone, Copy)]
+pub struct SourceLine<'a> {
+    pub make: Make,
+    pub minute: u64,
+    pub price: u64,
+    pub rows: Tail<'a, (usize, i64)>,
+}
+
+// What is asked for.
+#[derive(Clone, Copy)]
+pub enum Question<'a> {
+    Quantity {
+        entity: usize,
+        contract: usize,
+    },
+    Base {
+        entity: usize,
+        contract: usize,
+    },
+    Limit {
+        underlying: usize,
+    },
+    Ban {
+        underlying: usize,
+    },
+    Violated {
+        underlying: usize,
+        entity: usize,
+    },
+    Charge {
+        underlying: usize,
+        entity: usize,
+    },
+    Notional {
+        underlying: usize,
+    },
+    // No source stands for notional deltas.
+    Reading {
+        underlying: usize,
+        source: Option<SourceLine<'a>>,
+    },
+}
+
+// No equality and no printing: a cursor has neither.
+#[derive(Clone, Copy)]
+pub enum Line<'a> {
     // No word.
     Blank,
     Declare(Declaration),
     Call(Command),
-    Ask(Question),
+    SetLimit {
+        underlying: usize,
+        free_float: u64,
+        deliveries: Tail<'a, u64>,
+    },
+    // The two o'clock source, then the closing source.
+    Close {
+        underlying: usize,
+        two: SourceLine<'a>,
+        closing: SourceLine<'a>,
+    },
+    Ask(Question<'a>),
 }

@@ -1,8 +1,8 @@
 // The words that name something. specs/Names.antt has the tables.
 ghost use Rattle.std.specs.Prelude.{◌≡◌, map};
-ghost use Rattle.journal.specs.Names.{name_in, verbs, topics, layouts, underlyings, kinds};
+ghost use Rattle.journal.specs.Names.{name_in, verbs, topics, layouts, underlyings, kinds, makes};
 
-use super::line::Layout;
+use super::line::{Layout, Make};
 use super::taken::Field;
 use replies::fault::Fault;
 use terms::kind::{Kind, Underlying};
@@ -20,6 +20,8 @@ pub(crate) enum Verb {
     Entry,
     Confirm,
     Ask,
+    Limit,
+    Close,
     // A word of the format that is not yet available.
     Later,
 }
@@ -28,6 +30,13 @@ pub(crate) enum Verb {
 #[derive(Clone, Copy, PartialEq, Eq, Debug)]
 pub(crate) enum Topic {
     Quantity,
+    Base,
+    Limit,
+    Ban,
+    Violated,
+    Charge,
+    Notional,
+    Reading,
     // A word of the format that is not yet available.
     Later,
 }
@@ -42,26 +51,26 @@ const VERBS: [(&str, Verb); 17] = [
     ("entry", Verb::Entry),
     ("confirm", Verb::Confirm),
     ("ask", Verb::Ask),
+    ("limit", Verb::Limit),
+    ("close", Verb::Close),
     ("snapshot", Verb::Later),
     ("cure", Verb::Later),
     ("cash", Verb::Later),
     ("holding", Verb::Later),
     ("settle", Verb::Later),
     ("report", Verb::Later),
-    ("limit", Verb::Later),
-    ("close", Verb::Later),
 ];
 
 const TOPICS: [(&str, Topic); 9] = [
     ("quantity", Topic::Quantity),
-    ("base", Topic::Later),
-    ("limit", Topic::Later),
-    ("ban", Topic::Later),
-    ("violated", Topic::Later),
-    ("charge", Topic::Later),
+    ("base", Topic::Base),
+    ("limit", Topic::Limit),
+    ("ban", Topic::Ban),
+    ("violated", Topic::Violated),
+    ("charge", Topic::Charge),
+    ("notional", Topic::Notional),
+    ("reading", Topic::Reading),
     ("mark", Topic::Later),
-    ("reading", Topic::Later),
-    ("notional", Topic::Later),
 ];
 
 const LAYOUTS: [(&str, Layout); 2] = [("grid", Layout::Grid), ("list", Layout::List)];
@@ -75,6 +84,11 @@ const KINDS: [(&str, Kind); 3] = [
     ("future", Kind::Future),
     ("call", Kind::Call),
     ("put", Kind::Put),
+];
+
+const MAKES: [(&str, Make); 2] = [
+    ("published", Make::Published),
+    ("settlement", Make::Settlement),
 ];
 
 // What a table has for a word.
@@ -123,5 +137,13 @@ impl Field for Kind {
 
     fn of_word(word: &[u8]) -> Result<Kind, Fault> {
         named(&KINDS, word)
+    }
+}
+
+impl Field for Make {
+    ghost field = { name_in makes };
+
+    fn of_word(word: &[u8]) -> Result<Make, Fault> {
+        named(&MAKES, word)
     }
 }

@@ -1,21 +1,25 @@
 // From a line's bytes to what it says. specs/Forms.antt has the table of the forms and the order of the faults.
-ghost use Rattle.std.specs.Prelude.{◌≡◌};
-ghost use Rattle.journal.specs.Forms.{full, placed, book_form, ask_form, form_of, read_words, read_line};
+ghost use Rattle.std.specs.Prelude.{◌≡◌, drop};
+ghost use Rattle.std.specs.Result.{OnOk};
+ghost use Rattle.journal.specs.Forms.{full, placed, book_form, source_form, one, two, to_notional, to_source, ask_form, form_of, read_words, read_line};
+ghost use Rattle.journal.specs.Said.{sourced, asked, said};
+ghost use Rattle.journal.specs.Taken.{result_map};
 ghost use Rattle.text.specs.Words.{to_come};
 
 use super::bounds::{BOOK_PLACES, BOOK_SIDE};
-use super::line::{Book, Declaration, Layout, Line, Question};
+use super::line::{Book, Declaration, Layout, Line, Question, SourceLine};
 use super::names::*;
 use super::taken::*;
 use replies::fault::Fault;
+use tails::skip;
 use terms::command::{Command, Trade};
 use terms::kind::Contract;
 use terms::limits::Limits;
 use text::words::{Words, is_text};
 
 // ENTITIES CONTRACTS PLACES
-fn placed_book(layout: Layout, mut words: Words<'_>) -> Result<Line, Fault>
-    ensures { result ≡ placed layout (to_come words.entry) }
+fn placed_book(layout: Layout, mut words: Words<'_>) -> Result<Line<'_>, Fault>
+    ensures { result_map said result ≡ placed layout (to_come words.entry) }
 {
     exactly(words, 3)?;
     let entities = next_up_to(&mut words, BOOK_SIDE)?;
@@ -30,8 +34,8 @@ fn placed_book(layout: Layout, mut words: Words<'_>) -> Result<Line, Fault>
 }
 
 // ENTITIES CONTRACTS
-fn full_book(layout: Layout, mut words: Words<'_>) -> Result<Line, Fault>
-    ensures { result ≡ full layout (to_come words.entry) }
+fn full_book(layout: Layout, mut words: Words<'_>) -> Result<Line<'_>, Fault>
+    ensures { result_map said result ≡ full layout (to_come words.entry) }
 {
     let entities = next_up_to(&mut words, BOOK_SIDE)?;
     let contracts = next_up_to(&mut words, BOOK_SIDE)?;
@@ -47,8 +51,8 @@ fn full_book(layout: Layout, mut words: Words<'_>) -> Result<Line, Fault>
     })))
 }
 
-fn sized_book(layout: Layout, words: Words<'_>) -> Result<Line, Fault>
-    ensures { result ≡ book_form layout (to_come words.entry) }
+fn sized_book(layout: Layout, words: Words<'_>) -> Result<Line<'_>, Fault>
+    ensures { result_map said result ≡ book_form layout (to_come words.entry) }
 {
     match layout {
         Layout::Grid => {
@@ -62,22 +66,22 @@ fn sized_book(layout: Layout, words: Words<'_>) -> Result<Line, Fault>
     }
 }
 
-fn book(mut words: Words<'_>) -> Result<Line, Fault>
-    ensures { result ≡ form_of Verb.Book (to_come words.entry) }
+fn book(mut words: Words<'_>) -> Result<Line<'_>, Fault>
+    ensures { result_map said result ≡ form_of Verb.Book (to_come words.entry) }
 {
     let layout = next(&mut words)?;
     sized_book(layout, words)
 }
 
-fn underlying(mut words: Words<'_>) -> Result<Line, Fault>
-    ensures { result ≡ form_of Verb.Underlying (to_come words.entry) }
+fn underlying(mut words: Words<'_>) -> Result<Line<'_>, Fault>
+    ensures { result_map said result ≡ form_of Verb.Underlying (to_come words.entry) }
 {
     exactly(words, 1)?;
     Ok(Line::Declare(Declaration::Underlying(next(&mut words)?)))
 }
 
-fn contract(mut words: Words<'_>) -> Result<Line, Fault>
-    ensures { result ≡ form_of Verb.Contract (to_come words.entry) }
+fn contract(mut words: Words<'_>) -> Result<Line<'_>, Fault>
+    ensures { result_map said result ≡ form_of Verb.Contract (to_come words.entry) }
 {
     exactly(words, 2)?;
     let underlying = next(&mut words)?;
@@ -85,8 +89,8 @@ fn contract(mut words: Words<'_>) -> Result<Line, Fault>
     Ok(Line::Declare(Declaration::Contract(Contract { underlying, kind })))
 }
 
-fn limits(mut words: Words<'_>) -> Result<Line, Fault>
-    ensures { result ≡ form_of Verb.Limits (to_come words.entry) }
+fn limits(mut words: Words<'_>) -> Result<Line<'_>, Fault>
+    ensures { result_map said result ≡ form_of Verb.Limits (to_come words.entry) }
 {
     exactly(words, 2)?;
     let net = next(&mut words)?;
@@ -94,15 +98,15 @@ fn limits(mut words: Words<'_>) -> Result<Line, Fault>
     Ok(Line::Declare(Declaration::Limits(Limits { net, gross })))
 }
 
-fn open(words: Words<'_>) -> Result<Line, Fault>
-    ensures { result ≡ form_of Verb.Open (to_come words.entry) }
+fn open(words: Words<'_>) -> Result<Line<'_>, Fault>
+    ensures { result_map said result ≡ form_of Verb.Open (to_come words.entry) }
 {
     exactly(words, 0)?;
     Ok(Line::Declare(Declaration::Open))
 }
 
-fn post(mut words: Words<'_>) -> Result<Line, Fault>
-    ensures { result ≡ form_of Verb.Post (to_come words.entry) }
+fn post(mut words: Words<'_>) -> Result<Line<'_>, Fault>
+    ensures { result_map said result ≡ form_of Verb.Post (to_come words.entry) }
 {
     exactly(words, 3)?;
     let entity = next(&mut words)?;
@@ -115,8 +119,8 @@ fn post(mut words: Words<'_>) -> Result<Line, Fault>
     }))
 }
 
-fn entry(mut words: Words<'_>) -> Result<Line, Fault>
-    ensures { result ≡ form_of Verb.Entry (to_come words.entry) }
+fn entry(mut words: Words<'_>) -> Result<Line<'_>, Fault>
+    ensures { result_map said result ≡ form_of Verb.Entry (to_come words.entry) }
 {
     exactly(words, 5)?;
     let ticket = next(&mut words)?;
@@ -133,35 +137,149 @@ fn entry(mut words: Words<'_>) -> Result<Line, Fault>
     Ok(Line::Call(Command::Entry { ticket, trade }))
 }
 
-fn confirm(mut words: Words<'_>) -> Result<Line, Fault>
-    ensures { result ≡ form_of Verb.Confirm (to_come words.entry) }
+fn confirm(mut words: Words<'_>) -> Result<Line<'_>, Fault>
+    ensures { result_map said result ≡ form_of Verb.Confirm (to_come words.entry) }
 {
     exactly(words, 1)?;
     let ticket = next(&mut words)?;
     Ok(Line::Call(Command::Confirm { ticket }))
 }
 
-fn quantity(mut words: Words<'_>) -> Result<Line, Fault>
-    ensures { result ≡ ask_form Topic.Quantity (to_come words.entry) }
+// UNDERLYING FREEFLOAT DELIVERY...
+fn set_limit(mut words: Words<'_>) -> Result<Line<'_>, Fault>
+    ensures { result_map said result ≡ form_of Verb.Limit (to_come words.entry) }
 {
-    exactly(words, 2)?;
-    let entity = next(&mut words)?;
-    let contract = next(&mut words)?;
-    Ok(Line::Ask(Question::Quantity { entity, contract }))
+    let days = at_least(words.len(), 2)?;
+    let underlying = next(&mut words)?;
+    let free_float = next(&mut words)?;
+    let deliveries = next_many(&mut words, days)?;
+    Ok(Line::SetLimit {
+        underlying,
+        free_float,
+        deliveries,
+    })
 }
 
-fn ask(mut words: Words<'_>) -> Result<Line, Fault>
-    ensures { result ≡ form_of Verb.Ask (to_come words.entry) }
+// Takes MAKE MINUTE PRICE and `n` rows.
+fn next_source<'a>(words: &mut Words<'a>, n: usize) -> Result<SourceLine<'a>, Fault>
+    ensures value { result_map sourced result ≡ source_form n (to_come words.old) }
+    ensures rest { OnOk result (to_come words.new ≡ drop n (drop 3 (to_come words.old))) }
 {
-    match next(&mut words)? {
-        Topic::Quantity => quantity(words),
+    let make = next(words)?;
+    let minute = next(words)?;
+    let price = next(words)?;
+    let rows = next_many(words, n)?;
+    Ok(SourceLine {
+        make,
+        minute,
+        price,
+        rows,
+    })
+}
+
+// UNDERLYING SOURCE / SOURCE
+fn close(mut words: Words<'_>) -> Result<Line<'_>, Fault>
+    ensures { result_map said result ≡ form_of Verb.Close (to_come words.entry) }
+{
+    let slash = words.count_before("/");
+    let before = at_least(slash, 4)?;
+    let behind = at_least(words.len() - slash, 4)?;
+    let underlying = next(&mut words)?;
+    let two = next_source(&mut words, before)?;
+    words.next();
+    let closing = next_source(&mut words, behind)?;
+    Ok(Line::Close {
+        underlying,
+        two,
+        closing,
+    })
+}
+
+// One unsigned number and no more.
+fn one(mut words: Words<'_>) -> Result<usize, Fault>
+    ensures { result ≡ one (to_come words.entry) }
+{
+    exactly(words, 1)?;
+    next(&mut words)
+}
+
+// Two unsigned numbers and no more.
+fn two(mut words: Words<'_>) -> Result<(usize, usize), Fault>
+    ensures { result ≡ two (to_come words.entry) }
+{
+    exactly(words, 2)?;
+    Ok((next(&mut words)?, next(&mut words)?))
+}
+
+// UNDERLYING notional
+fn to_notional(mut words: Words<'_>) -> Result<Question<'_>, Fault>
+    ensures { result_map asked result ≡ to_notional (to_come words.entry) }
+{
+    exactly(words, 2)?;
+    Ok(Question::Reading {
+        underlying: next(&mut words)?,
+        source: None,
+    })
+}
+
+// UNDERLYING SOURCE
+fn to_source(mut words: Words<'_>) -> Result<Question<'_>, Fault>
+    ensures { result_map asked result ≡ to_source (to_come words.entry) }
+{
+    let rows = at_least(words.len(), 4)?;
+    let underlying = next(&mut words)?;
+    let source = next_source(&mut words, rows)?;
+    Ok(Question::Reading {
+        underlying,
+        source: Some(source),
+    })
+}
+
+fn reading(words: Words<'_>) -> Result<Question<'_>, Fault>
+    ensures { result_map asked result ≡ ask_form Topic.Reading (to_come words.entry) }
+{
+    if is_next(skip(words, 1), "notional") {
+        to_notional(words)
+    } else {
+        to_source(words)
+    }
+}
+
+fn question(topic: Topic, words: Words<'_>) -> Result<Question<'_>, Fault>
+    ensures { result_map asked result ≡ ask_form topic (to_come words.entry) }
+{
+    match topic {
+        Topic::Quantity => two(words).map(|(entity, contract)| Question::Quantity {
+            entity,
+            contract,
+        }),
+        Topic::Base => two(words).map(|(entity, contract)| Question::Base { entity, contract }),
+        Topic::Limit => one(words).map(|underlying| Question::Limit { underlying }),
+        Topic::Ban => one(words).map(|underlying| Question::Ban { underlying }),
+        Topic::Violated => two(words).map(|(underlying, entity)| Question::Violated {
+            underlying,
+            entity,
+        }),
+        Topic::Charge => two(words).map(|(underlying, entity)| Question::Charge {
+            underlying,
+            entity,
+        }),
+        Topic::Notional => one(words).map(|underlying| Question::Notional { underlying }),
+        Topic::Reading => reading(words),
         Topic::Later => Err(Fault::NotYet),
     }
 }
 
+fn ask(mut words: Words<'_>) -> Result<Line<'_>, Fault>
+    ensures { result_map said result ≡ form_of Verb.Ask (to_come words.entry) }
+{
+    let topic = next(&mut words)?;
+    Ok(Line::Ask(question(topic, words)?))
+}
+
 // A match, and no table of functions beside the names: the compiler sees here that each verb has its form.
-fn form(verb: Verb, words: Words<'_>) -> Result<Line, Fault>
-    ensures { result ≡ form_of verb (to_come words.entry) }
+fn form(verb: Verb, words: Words<'_>) -> Result<Line<'_>, Fault>
+    ensures { result_map said result ≡ form_of verb (to_come words.entry) }
 {
     match verb {
         Verb::Book => book(words),
@@ -173,12 +291,14 @@ fn form(verb: Verb, words: Words<'_>) -> Result<Line, Fault>
         Verb::Entry => entry(words),
         Verb::Confirm => confirm(words),
         Verb::Ask => ask(words),
+        Verb::Limit => set_limit(words),
+        Verb::Close => close(words),
         Verb::Later => Err(Fault::NotYet),
     }
 }
 
-fn read_words(mut words: Words<'_>) -> Result<Line, Fault>
-    ensures { result ≡ read_words (to_come words.entry) }
+fn read_words(mut words: Words<'_>) -> Result<Line<'_>, Fault>
+    ensures { result_map said result ≡ read_words (to_come words.entry) }
 {
     match words.next() {
         Some(first) => form(Verb::of_word(first)?, words),
@@ -187,8 +307,8 @@ fn read_words(mut words: Words<'_>) -> Result<Line, Fault>
 }
 
 // What the line says, or the first fault that it has.
-pub fn read(line: &[u8]) -> Result<Line, Fault>
-    ensures { result ≡ read_line line.now }
+pub fn read(line: &[u8]) -> Result<Line<'_>, Fault>
+    ensures { result_map said result ≡ read_line line.now }
 {
     if !is_text(line) {
         return Err(Fault::NotText);

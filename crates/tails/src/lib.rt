@@ -1,10 +1,10 @@
 // The words at the end of a line, any number of them, each read as a value of one type. specs/Tails.antt says what they are.
 #![tactic(auto)]
 
-ghost use Rattle.std.specs.Prelude.{◌≡◌, take, drop};
+ghost use Rattle.std.specs.Prelude.{◌≡◌, take, drop, option_map};
 ghost use Rattle.std.specs.Iterator.{YieldsFirst, item_count};
 ghost use Rattle.text.specs.Words.{to_come};
-ghost use Rattle.tails.specs.Tails.{all_are, words_left, left_of};
+ghost use Rattle.tails.specs.Tails.{all_are, each_of, words_left, left_of};
 
 use std::marker::PhantomData;
 use text::worded::Worded;
@@ -54,6 +54,19 @@ impl<'a, T: Worded> Tail<'a, T> {
         ensures { words_left result ≡ words_left self.entry }
     {
         Tail::new(self.words, self.left)
+    }
+}
+
+impl<'a, T: Worded + Drop> Tail<'a, T> {
+    // The values of the next `n` words, if each of these is one.
+    pub fn checked(words: Words<'a>, n: usize) -> Option<Tail<'a, T>>
+        ensures { option_map (left_of T.worded) result ≡ each_of T.worded (take n (to_come words.entry)) }
+    {
+        if all_are::<T>(words, n) {
+            Some(Tail::new(words, n))
+        } else {
+            None
+        }
     }
 }
 
