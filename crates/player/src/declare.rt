@@ -11,7 +11,8 @@ fn declared(setup: &mut Setup, line: &[u8]) -> Option<Result<(), Fault>> {
     match read(line) {
         Ok(Line::Blank) => None,
         Ok(Line::Declare(declaration)) => Some(setup.declare(declaration)),
-        Ok(Line::Call(_) | Line::Ask(_)) => Some(setup.ready()),
+        // A call or a question.
+        Ok(_) => Some(setup.ready()),
         Err(fault) => Some(Err(fault)),
     }
 }

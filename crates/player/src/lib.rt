@@ -1,8 +1,11 @@
 // Plays a journal: from the lines of an input to a monitor's answers on an output.
 #![tactic(auto)]
 
+mod ask;
+mod close;
 mod declare;
 mod notices;
 pub mod play;
 mod serve;
+mod sources;
 mod tally;

@@ -73,6 +73,46 @@ impl<W: Write + Drop> Notices<W> {
         Ok(())
     }
 
+    // The answer to a question that lacks something. Questions are not counted.
+    pub(crate) fn declined(&mut self, refusal: Refusal) -> anyhow::Result<()> {
+        let n = self.tally.lines;
+        let told = Told(Err(refusal));
+        writeln!(self.out, "{n} {told}")?;
+        Ok(())
+    }
+
+    // What an entity violates and is charged.
+    pub(crate) fn charged(
+        &mut self,
+        entity: usize,
+        violated: u64,
+        charge: u64,
+    ) -> anyhow::Result<()> {
+        writeln!(self.out, "  charged {entity} {violated} {charge}")?;
+        Ok(())
+    }
+
+    // What became of a ban, and market interest.
+    pub(crate) fn ban(&mut self, turn: &str, interest: u128) -> anyhow::Result<()> {
+        writeln!(self.out, "  ban {turn} interest {interest}")?;
+        Ok(())
+    }
+
+    // The reading of an entity.
+    pub(crate) fn reading(
+        &mut self,
+        entity: usize,
+        net: i64,
+        long: i64,
+        short: i64,
+    ) -> anyhow::Result<()> {
+        writeln!(
+            self.out,
+            "  entity {entity} net {net} long {long} short {short}"
+        )?;
+        Ok(())
+    }
+
     pub(crate) fn end(mut self) -> anyhow::Result<()> {
         let Tally {
             lines,

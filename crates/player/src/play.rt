@@ -1,7 +1,7 @@
 // A whole journal.
 use crate::declare::declare;
 use crate::notices::Notices;
-use crate::serve::serve;
+use crate::serve::Session;
 use book::grid::Grid;
 use book::list::List;
 use book::position::Book;
@@ -35,6 +35,7 @@ fn declare_all<R: Read + Drop, W: Write + Drop>(
 
 // Opens a monitor over the book and takes the rest of the lines.
 fn serve_all<R: Read + Drop, W: Write + Drop, B: Book>(
+    heap: Global,
     lines: &mut Lines<R>,
     notices: &mut Notices<W>,
     setup: &Setup,
@@ -42,15 +43,11 @@ fn serve_all<R: Read + Drop, W: Write + Drop, B: Book>(
     book: &mut B,
 ) -> anyhow::Result<()> {
     let shape = book.shape();
-    let mut monitor = Monitor::open(book, setup.contracts(), setup.underlyings(), limits);
-    if monitor.is_open() {
-        notices.opened(shape)?;
-    } else {
-        notices.not_opened()?;
-    }
+    let monitor = Monitor::open(book, setup.contracts(), setup.underlyings(), limits);
+    let mut session = Session::new(heap, notices, monitor);
+    session.tell_opening(shape)?;
     for line in lines.by_ref() {
-        notices.next_line();
-        serve(notices, &mut monitor, line?.as_slice())?;
+        session.serve(line?.as_slice())?;
     }
     Ok(())
 }
@@ -73,7 +70,7 @@ fn serve_over<R: Read + Drop, W: Write + Drop>(
         Layout::Grid => {
             let mut cells = vec![in heap; 0i64; book.places]?;
             let mut grid = Grid::new(&mut cells, book.entities, book.contracts);
-            serve_all(lines, notices, setup, limits, &mut grid)
+            serve_all(heap, lines, notices, setup, limits, &mut grid)
         }
         Layout::List => {
             let blank = Row {
@@ -82,7 +79,7 @@ fn serve_over<R: Read + Drop, W: Write + Drop>(
             };
             let mut rows = vec![in heap; blank; book.places]?;
             let mut list = List::new(&mut rows, narrow(book.entities), narrow(book.contracts));
-            serve_all(lines, notices, setup, limits, &mut list)
+            serve_all(heap, lines, notices, setup, limits, &mut list)
         }
     }
 }

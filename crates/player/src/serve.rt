@@ -1,51 +1,103 @@
 // The lines once the monitor was opened.
 use crate::notices::Notices;
-use book::position::Book;
+use crate::sources::Source;
+use book::position::{Book, Shape};
 use handbook::replay::replay;
-use journal::line::{Line, Question};
+use handbook::request::Request;
+use journal::line::Line;
 use journal::reader::read;
 use monitor::state::Monitor;
 use replies::fault::Fault;
+use std::alloc::Global;
 use std::io::Write;
-use terms::command::Command;
+use tails::Tail;
 use terms::refusal::Refusal;
 
-// Makes one call and prints its answer: through `replay`, on whose contract the laws stand. Notices and monitor are two parameters:
-// the notices are there before the monitor, and after it.
-fn call<W: Write + Drop, B: Book>(
-    notices: &mut Notices<W>,
-    monitor: &mut Monitor<B>,
-    command: Command,
-) -> anyhow::Result<()> {
-    let mut answers = [Err(Refusal::Closed)];
-    replay(monitor, &[command], &mut answers).unwrap();
-    let answer = answers[0];
-    notices.called(answer)
+// A monitor that calls and questions are put to, and where their answers are printed.
+#[derive(Drop)]
+pub(crate) struct Session<'n, 'b, 't, W: Write + Drop, B> {
+    pub(crate) heap: Global,
+    pub(crate) notices: &'n mut Notices<W>,
+    pub(crate) monitor: Monitor<'b, 't, B>,
 }
 
-// Prints the answer to a question.
-fn ask<W: Write + Drop, B: Book>(
-    notices: &mut Notices<W>,
-    monitor: &Monitor<B>,
-    question: Question,
-) -> anyhow::Result<()> {
-    match question {
-        Question::Quantity { entity, contract } => {
-            notices.told(monitor.quantity(entity, contract))
+impl<'n, 'b, 't, W: Write + Drop, B: Book> Session<'n, 'b, 't, W, B> {
+    pub(crate) fn new(
+        heap: Global,
+        notices: &'n mut Notices<W>,
+        monitor: Monitor<'b, 't, B>,
+    ) -> Session<'n, 'b, 't, W, B> {
+        Session {
+            heap,
+            notices,
+            monitor,
         }
     }
-}
 
-pub(crate) fn serve<W: Write + Drop, B: Book>(
-    notices: &mut Notices<W>,
-    monitor: &mut Monitor<B>,
-    line: &[u8],
-) -> anyhow::Result<()> {
-    match read(line) {
-        Ok(Line::Blank) => Ok(()),
-        Ok(Line::Declare(_)) => notices.malformed(Fault::AfterOpen),
-        Ok(Line::Call(command)) => call(notices, monitor, command),
-        Ok(Line::Ask(question)) => ask(notices, monitor, question),
-        Err(fault) => notices.malformed(fault),
+    // Prints what was opened.
+    pub(crate) fn tell_opening(&mut self, shape: Shape) -> anyhow::Result<()> {
+        if self.monitor.is_open() {
+            self.notices.opened(shape)
+        } else {
+            self.notices.not_opened()
+        }
+    }
+
+    // Makes one call, and prints and tells its answer. One type of source serves all calls: that of the closes.
+    pub(crate) fn call(
+        &mut self,
+        request: Request<'_, Source<'_, '_>>,
+    ) -> anyhow::Result<Result<i64, Refusal>> {
+        let mut answers = [Err(Refusal::Closed)];
+        replay(&mut self.monitor, &[request], &mut answers).unwrap();
+        let answer = answers[0];
+        self.notices.called(answer)?;
+        Ok(answer)
+    }
+
+    // Makes one call that prints its answer alone.
+    fn call_only(&mut self, request: Request<'_, Source<'_, '_>>) -> anyhow::Result<()> {
+        let _ = self.call(request)?;
+        Ok(())
+    }
+
+    fn set_limit(
+        &mut self,
+        underlying: usize,
+        free_float: u64,
+        deliveries: Tail<'_, u64>,
+    ) -> anyhow::Result<()> {
+        let deliveries: Vec<u64> = deliveries.collect(self.heap)?;
+        self.call_only(Request::SetLimit {
+            underlying,
+            free_float,
+            deliveries: &deliveries,
+        })
+    }
+
+    // Takes the next line.
+    pub(crate) fn serve(&mut self, line: &[u8]) -> anyhow::Result<()> {
+        self.notices.next_line();
+        match read(line) {
+            Ok(Line::Blank) => Ok(()),
+            Ok(Line::Declare(_)) => self.notices.malformed(Fault::AfterOpen),
+            Ok(Line::Call(command)) => self.call_only(Request::Posting(command)),
+            Ok(
+                Line::SetLimit {
+                    underlying,
+                    free_float,
+                    deliveries,
+                },
+            ) => self.set_limit(underlying, free_float, deliveries),
+            Ok(
+                Line::Close {
+                    underlying,
+                    two,
+                    closing,
+                },
+            ) => self.close(underlying, two, closing),
+            Ok(Line::Ask(question)) => self.ask(question),
+            Err(fault) => self.notices.malformed(fault),
+        }
     }
 }
