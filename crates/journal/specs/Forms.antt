@@ -102,12 +102,12 @@ abbrev pub source : {X : Type 0} → ℕ → (Sourced → Form X) → Form X
 source n f ws = then (source_form n ws) (λ s. f s (drop n (drop 3 ws)))
 
 -- an unsigned number and no more
-abbrev pub one : Form ℕ
-one = exact 1 (index says)
+abbrev pub one_number : Form ℕ
+one_number = exact 1 (index says)
 
 -- two unsigned numbers and no more
-abbrev pub two : Form (ℕ × ℕ)
-two = exact 2 (index (λ a. index (λ b. says (a, b))))
+abbrev pub two_numbers : Form (ℕ × ℕ)
+two_numbers = exact 2 (index (λ a. index (λ b. says (a, b))))
 
 -- UNDERLYING notional
 abbrev pub to_notional : Form Asked
@@ -119,13 +119,13 @@ to_source = at_least 4 (λ rows. index (λ underlying. source rows (λ s. says (
 
 -- the words behind `ask quantity` and the other questions
 abbrev pub ask_form : Topic → Form Asked
-ask_form topic.Quantity ws = result_map (λ p. quantity p.0 p.1) (two ws)
-ask_form topic.Base ws = result_map (λ p. base p.0 p.1) (two ws)
-ask_form topic.Limit ws = result_map limit (one ws)
-ask_form topic.Ban ws = result_map ban (one ws)
-ask_form topic.Violated ws = result_map (λ p. violated p.0 p.1) (two ws)
-ask_form topic.Charge ws = result_map (λ p. charge p.0 p.1) (two ws)
-ask_form topic.Notional ws = result_map notional (one ws)
+ask_form topic.Quantity ws = result_map (λ p. quantity p.0 p.1) (two_numbers ws)
+ask_form topic.Base ws = result_map (λ p. base p.0 p.1) (two_numbers ws)
+ask_form topic.Limit ws = result_map limit (one_number ws)
+ask_form topic.Ban ws = result_map ban (one_number ws)
+ask_form topic.Violated ws = result_map (λ p. violated p.0 p.1) (two_numbers ws)
+ask_form topic.Charge ws = result_map (λ p. charge p.0 p.1) (two_numbers ws)
+ask_form topic.Notional ws = result_map notional (one_number ws)
 ask_form topic.Reading ws = cond (begins (codes "notional") (drop 1 ws)) (to_notional ws) (to_source ws)
 ask_form topic.Later ws = Err NotYet
 

@@ -23,7 +23,7 @@ pub record Sourced : Type 0 where
   pub price : ℕ
   pub rows : List (ℕ × ℤ)
 
--- a question
+-- a question; one about a reading has its source, or none for notional deltas
 pub data Asked : Type 0 where
   quantity : (entity contract : ℕ) → Asked
   base : (entity contract : ℕ) → Asked
@@ -34,7 +34,7 @@ pub data Asked : Type 0 where
   notional : (underlying : ℕ) → Asked
   reading : (underlying : ℕ) (source : Option Sourced) → Asked
 
--- a line
+-- a line, with all its deliveries
 pub data Said : Type 0 where
   blank : Said
   declare : (declaration : Declaration) → Said
@@ -47,6 +47,7 @@ pub data Said : Type 0 where
 abbrev pub sourced : SourceLine → Sourced
 sourced s = record { make = s.make; minute = s.minute; price = s.price; rows = left_of row_of s.rows }
 
+-- the question, with the rows that its source's cursor gives
 abbrev pub asked : Question → Asked
 asked (question.Quantity entity contract) = quantity entity contract
 asked (question.Base entity contract) = base entity contract

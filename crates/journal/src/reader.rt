@@ -1,7 +1,7 @@
 // From a line's bytes to what it says. specs/Forms.antt has the table of the forms and the order of the faults.
 ghost use Rattle.std.specs.Prelude.{◌≡◌, drop};
 ghost use Rattle.std.specs.Result.{OnOk};
-ghost use Rattle.journal.specs.Forms.{full, placed, book_form, source_form, one, two, to_notional, to_source, ask_form, form_of, read_words, read_line};
+ghost use Rattle.journal.specs.Forms.{full, placed, book_form, source_form, one_number, two_numbers, to_notional, to_source, ask_form, form_of, read_words, read_line};
 ghost use Rattle.journal.specs.Said.{sourced, asked, said};
 ghost use Rattle.journal.specs.Taken.{result_map};
 ghost use Rattle.text.specs.Words.{to_come};
@@ -196,16 +196,16 @@ fn close(mut words: Words<'_>) -> Result<Line<'_>, Fault>
 }
 
 // One unsigned number and no more.
-fn one(mut words: Words<'_>) -> Result<usize, Fault>
-    ensures { result ≡ one (to_come words.entry) }
+fn one_number(mut words: Words<'_>) -> Result<usize, Fault>
+    ensures { result ≡ one_number (to_come words.entry) }
 {
     exactly(words, 1)?;
     next(&mut words)
 }
 
 // Two unsigned numbers and no more.
-fn two(mut words: Words<'_>) -> Result<(usize, usize), Fault>
-    ensures { result ≡ two (to_come words.entry) }
+fn two_numbers(mut words: Words<'_>) -> Result<(usize, usize), Fault>
+    ensures { result ≡ two_numbers (to_come words.entry) }
 {
     exactly(words, 2)?;
     Ok((next(&mut words)?, next(&mut words)?))
@@ -249,22 +249,25 @@ fn question(topic: Topic, words: Words<'_>) -> Result<Question<'_>, Fault>
     ensures { result_map asked result ≡ ask_form topic (to_come words.entry) }
 {
     match topic {
-        Topic::Quantity => two(words).map(|(entity, contract)| Question::Quantity {
+        Topic::Quantity => two_numbers(words).map(|(entity, contract)| Question::Quantity {
             entity,
             contract,
         }),
-        Topic::Base => two(words).map(|(entity, contract)| Question::Base { entity, contract }),
-        Topic::Limit => one(words).map(|underlying| Question::Limit { underlying }),
-        Topic::Ban => one(words).map(|underlying| Question::Ban { underlying }),
-        Topic::Violated => two(words).map(|(underlying, entity)| Question::Violated {
+        Topic::Base => two_numbers(words).map(|(entity, contract)| Question::Base {
+            entity,
+            contract,
+        }),
+        Topic::Limit => one_number(words).map(|underlying| Question::Limit { underlying }),
+        Topic::Ban => one_number(words).map(|underlying| Question::Ban { underlying }),
+        Topic::Violated => two_numbers(words).map(|(underlying, entity)| Question::Violated {
             underlying,
             entity,
         }),
-        Topic::Charge => two(words).map(|(underlying, entity)| Question::Charge {
+        Topic::Charge => two_numbers(words).map(|(underlying, entity)| Question::Charge {
             underlying,
             entity,
         }),
-        Topic::Notional => one(words).map(|underlying| Question::Notional { underlying }),
+        Topic::Notional => one_number(words).map(|underlying| Question::Notional { underlying }),
         Topic::Reading => reading(words),
         Topic::Later => Err(Fault::NotYet),
     }

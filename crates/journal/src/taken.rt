@@ -115,8 +115,5 @@ pub(crate) fn next_many<'a, T: Worded + Drop>(
 {
     let tail = Tail::checked(*words, n);
     *words = skip(*words, n);
-    match tail {
-        Some(tail) => Ok(tail),
-        None => Err(Fault::NotNumber),
-    }
+    tail.ok_or(Fault::NotNumber)
 }

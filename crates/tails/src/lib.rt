@@ -62,11 +62,7 @@ impl<'a, T: Worded + Drop> Tail<'a, T> {
     pub fn checked(words: Words<'a>, n: usize) -> Option<Tail<'a, T>>
         ensures { option_map (left_of T.worded) result ≡ each_of T.worded (take n (to_come words.entry)) }
     {
-        if all_are::<T>(words, n) {
-            Some(Tail::new(words, n))
-        } else {
-            None
-        }
+        all_are::<T>(words, n).then(|| Tail::new(words, n))
     }
 }
 
