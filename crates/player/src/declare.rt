@@ -11,8 +11,9 @@ fn declared(setup: &mut Setup, line: &[u8]) -> Option<Result<(), Fault>> {
     match read(line) {
         Ok(Line::Blank) => None,
         Ok(Line::Declare(declaration)) => Some(setup.declare(declaration)),
-        // A call or a question.
-        Ok(_) => Some(setup.ready()),
+        Ok(Line::Call(_) | Line::SetLimit { .. } | Line::Close { .. } | Line::Ask(_)) => Some(
+            setup.ready(),
+        ),
         Err(fault) => Some(Err(fault)),
     }
 }
