@@ -4,6 +4,7 @@
 mod ask;
 mod close;
 mod declare;
+mod lines;
 mod notices;
 pub mod play;
 mod serve;

@@ -1,5 +1,6 @@
 // A whole journal.
 use crate::declare::declare;
+use crate::lines::Lines;
 use crate::notices::Notices;
 use crate::serve::Session;
 use book::grid::Grid;
@@ -11,11 +12,8 @@ use monitor::state::Monitor;
 use opening::opened::Opening;
 use opening::setup::Setup;
 use std::alloc::Global;
-use std::io::{BufRead, BufReader, Read, Split, Write};
+use std::io::{Read, Write};
 use terms::limits::Limits;
-
-// The lines of an input, without their line feeds.
-type Lines<R> = Split<BufReader<R>>;
 
 // The lines up to the one that opens, or all of them where none does.
 fn declare_all<R: Read + Drop, W: Write + Drop>(
@@ -23,9 +21,13 @@ fn declare_all<R: Read + Drop, W: Write + Drop>(
     notices: &mut Notices<W>,
 ) -> anyhow::Result<Setup> {
     let mut setup = Setup::new();
-    for line in lines.by_ref() {
+    // A count: a loop has to end, and no clause says that an input does.
+    for _ in 0..u64::MAX {
+        let Some(line) = lines.next_line()? else {
+            break;
+        };
         notices.next_line();
-        declare(notices, &mut setup, line?.as_slice())?;
+        declare(notices, &mut setup, line)?;
         if setup.is_open() {
             break;
         }
@@ -46,8 +48,12 @@ fn serve_all<R: Read + Drop, W: Write + Drop, B: Book>(
     let monitor = Monitor::open(book, setup.contracts(), setup.underlyings(), limits);
     let mut session = Session::new(heap, notices, monitor);
     session.tell_opening(shape)?;
-    for line in lines.by_ref() {
-        session.serve(line?.as_slice())?;
+    // A count, as above.
+    for _ in 0..u64::MAX {
+        let Some(line) = lines.next_line()? else {
+            break;
+        };
+        session.serve(line)?;
     }
     Ok(())
 }
@@ -86,7 +92,7 @@ fn serve_over<R: Read + Drop, W: Write + Drop>(
 
 // Plays the journal from the input, and prints what it did.
 pub fn play<R: Read + Drop>(rt: &HostRuntime, input: R) -> anyhow::Result<()> {
-    let mut lines = BufReader::new(rt.alloc(), input)?.split(rt.alloc(), b'\n');
+    let mut lines = Lines::new(rt.alloc(), input)?;
     let mut notices = Notices::new(rt.alloc(), rt.stdout())?;
     let setup = declare_all(&mut lines, &mut notices)?;
     if let Some(opening) = setup.opening() {
