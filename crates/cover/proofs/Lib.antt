@@ -1,0 +1,2 @@
+pub mod Compared
+mod Reports

@@ -1,0 +1,28 @@
+-- Nothing to believe here, only lemmas: no cover is above the bound.
+use Rattle.std.specs.Prelude.{ℕ, ◌≤◌, List, None, unwrap_or}
+use Rattle.std.proofs.Common.{arith}
+use Rattle.std.proofs.lemmas.Bool.{cond_both}
+use Rattle.std.specs.List.{sum_by}
+use Rattle.terms.specs.Bounds.{amount_bound}
+use Rattle.terms.specs.declared.mark.Side.TheVariants.{Long, Short}
+use Rattle.book.specs.Tables.{Table, value_of}
+use Rattle.cover.specs.declared.depository.DepositoryRow.{DepositoryRow}
+use Rattle.cover.specs.Covers.{Amounts, Bounded, cut, joint}
+use Rattle.cover.specs.Depositories.{deposited, worth_to}
+use Rattle.cover.specs.Reports.{is_watched, key_of, paid, Small}
+
+cut_le : (n : ℕ) → cut n ≤ amount_bound
+cut_le n = omega arith
+
+pub deposited_bounded : (rows : List DepositoryRow) → Bounded (deposited rows)
+deposited_bounded rows entity underlying Long = omega arith
+deposited_bounded rows entity underlying Short = cut_le (sum_by (worth_to entity) rows)
+
+pub joint_bounded : (c c' : Amounts) → Bounded (joint c c')
+joint_bounded c c' entity underlying side = cut_le _
+
+pub paid_bounded : (t : Table ℕ) → Small t → Bounded (paid t)
+paid_bounded t h entity underlying Long =
+    cond_both (is_watched entity underlying) (value_of t (key_of entity underlying)) None (λ o. unwrap_or o 0 ≤ amount_bound)
+    (λ _. h (key_of entity underlying)) (λ _. omega arith)
+paid_bounded t h entity underlying Short = omega arith

@@ -1,0 +1,4 @@
+pub mod Covers
+pub mod Depositories
+pub mod Reports
+pub mod Boundedness
