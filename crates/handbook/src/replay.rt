@@ -14,8 +14,7 @@ use std::fmt;
 use terms::command::Command;
 use terms::refusal::Refusal;
 
-// Makes the call that the command stands for. A match, and no closure in each command: commands are data, and the laws speak
-// of lists of them.
+// Makes the call that the command stands for; a match as in `apply`.
 fn post<B: Book>(monitor: &mut Monitor<B>, command: Command) -> Result<i64, Refusal>
     ensures step { (result, state_of B.Holds.held monitor.new) ≡ step (state_of B.Holds.held monitor.old) (posting command) }
     ensures same { monitor.new.book.ghost_name ≡ monitor.old.book.ghost_name }
@@ -31,7 +30,8 @@ fn post<B: Book>(monitor: &mut Monitor<B>, command: Command) -> Result<i64, Refu
     }
 }
 
-// Makes the call that the request stands for.
+// Makes the call that the request stands for. A match, and no closure in each request: requests are data, and the laws speak of
+// lists of them.
 pub fn apply<B: Book, D: PricedDelta>(
     monitor: &mut Monitor<B>,
     request: &Request<'_, D>,

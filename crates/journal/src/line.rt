@@ -36,7 +36,8 @@ pub enum Make {
     Settlement,
 }
 
-// A source of deltas, with its rows: a contract, and its delta or its strike.
+// A source of deltas, with its rows: a contract, and its delta or its strike. Here and below no equality and no printing: a cursor
+// has neither.
 #[derive(Clone, Copy)]
 pub struct SourceLine<'a> {
     pub make: Make,
@@ -80,7 +81,6 @@ pub enum Question<'a> {
     },
 }
 
-// No equality and no printing: a cursor has neither.
 #[derive(Clone, Copy)]
 pub enum Line<'a> {
     // No word.
