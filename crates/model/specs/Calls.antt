@@ -134,9 +134,13 @@ violated_answer s u e = if_open s ((s.ledger.stocks u).violated e) 0
 abbrev pub charge_answer : State → ℕ → ℕ → ℕ
 charge_answer s u e = if_open s ((s.ledger.stocks u).charge e) 0
 
--- net, long and short of an entity in an underlying at some deltas
+-- net, long and short of an entity, where w has what a unit of each contract weighs
+abbrev pub reading_on : State → (ℕ → ℤ) → ℕ → ℤ × ℤ × ℤ
+reading_on s w e = if_open s (reading_of w (quantity_of s.ledger.book) e) (pos 0, pos 0, pos 0)
+
+-- the same in an underlying at some deltas
 abbrev pub reading_answer : State → ℕ → (ℕ → Kind → Option ℤ) → ℕ → ℤ × ℤ × ℤ
-reading_answer s u d e = if_open s (reading_of (weight_of s.terms.listing.contracts u d) (quantity_of s.ledger.book) e) (pos 0, pos 0, pos 0)
+reading_answer s u d e = reading_on s (weight_of s.terms.listing.contracts u d) e
 
 -- the first contract of an underlying that lacks a needed delta, and the first entity that needs it
 abbrev pub missing_answer : State → ℕ → (ℕ → Kind → Option ℤ) → Option (ℕ × ℕ)

@@ -1,6 +1,6 @@
 // Questions about what entities hold in an underlying.
 ghost use Rattle.std.specs.Prelude.{◌≡◌};
-ghost use Rattle.model.specs.Calls.{reading_answer, missing_answer, interest_answer, notional_answer};
+ghost use Rattle.model.specs.Calls.{reading_on, reading_answer, missing_answer, interest_answer, notional_answer};
 ghost use Rattle.reading.specs.Sheets.{weight_of, lacks_delta};
 ghost use Rattle.reading.specs.Views.{weights_of, lacking_of};
 ghost use Rattle.monitor.specs.View.{state_of};
@@ -12,22 +12,29 @@ use delta::source::Delta;
 use reading::sheet::Sheet;
 
 impl<'b, 't, B: Book> Monitor<'b, 't, B> {
-    // The sheet of an underlying's contracts at a source.
-    pub(crate) fn sheet<D: Delta>(&self, underlying: usize, source: &D) -> Sheet
+    // The sheet of an underlying's contracts at a source, which is asked once for each.
+    pub fn sheet<D: Delta>(&self, underlying: usize, source: &D) -> Sheet
         ensures weights { weights_of result ≡ weight_of (state_of B.Holds.held self.now).terms.listing.contracts underlying (D.answer source.now) }
         ensures lacking { lacking_of result ≡ lacks_delta (state_of B.Holds.held self.now).terms.listing.contracts underlying (D.answer source.now) }
     {
         Sheet::new(source, self.fixed.terms.listing.chain(underlying))
     }
 
-    // Net, long and short of an entity in an underlying, in ten-thousandths of a unit.
-    pub fn reading<D: Delta>(&self, underlying: usize, source: &D, entity: usize) -> (i64, i64, i64)
-        ensures { result ≡ reading_answer (state_of B.Holds.held self.now) underlying (D.answer source.now) entity }
+    // Net, long and short of an entity on a sheet, in ten-thousandths of a unit: for many entities at one source.
+    pub fn reading_on(&self, sheet: &Sheet, entity: usize) -> (i64, i64, i64)
+        ensures { result ≡ reading_on (state_of B.Holds.held self.now) (weights_of sheet.now) entity }
     {
         if !self.fixed.live {
             return (0, 0, 0);
         }
-        self.sheet(underlying, source).reading(&*self.book, entity)
+        sheet.reading(&*self.book, entity)
+    }
+
+    // Net, long and short of an entity in an underlying.
+    pub fn reading<D: Delta>(&self, underlying: usize, source: &D, entity: usize) -> (i64, i64, i64)
+        ensures { result ≡ reading_answer (state_of B.Holds.held self.now) underlying (D.answer source.now) entity }
+    {
+        self.reading_on(&self.sheet(underlying, source), entity)
     }
 
     // The first contract of an underlying that lacks a needed delta, and the first entity that needs it.

@@ -17,8 +17,9 @@ impl<'n, 'b, 't, W: Write + Drop, B: Book> Session<'n, 'b, 't, W, B> {
         }
         self.notices
             .told(self.monitor.interest(underlying, source))?;
+        let sheet = self.monitor.sheet(underlying, source);
         for entity in 0..MOST_ENTITIES {
-            let (net, long, short) = self.monitor.reading(underlying, source, entity);
+            let (net, long, short) = self.monitor.reading_on(&sheet, entity);
             if long > 0 || short > 0 {
                 self.notices.reading(entity, net, long, short)?;
             }
