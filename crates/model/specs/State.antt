@@ -3,9 +3,10 @@ use Rattle.std.specs.Prelude.{ℕ, Bool, false, cond, ℤ, pos, None, Option, �
 use Rattle.terms.specs.declared.command.Trade.{Trade}
 use Rattle.terms.specs.declared.mark.Mark.{Mark}
 use Rattle.book.specs.Holding.{Holding}
-use Rattle.model.specs.declared.parts.Day.{Day}
-use Rattle.model.specs.declared.parts.Due.TheVariants.{Snapshot}
-use Rattle.model.specs.declared.parts.MarkRow.{MarkRow}
+use Rattle.index.specs.declared.day.Day.{Day}
+use Rattle.index.specs.declared.mark.MarkRow.{MarkRow}
+use Rattle.index.specs.Days.{no_day}
+use Rattle.index.specs.Marks.{no_row}
 use Rattle.model.specs.Opening.{Opening, Terms, terms_of}
 
 -- a quantity for each entity and contract
@@ -40,12 +41,6 @@ pub record State : Type 0 where
   pub marks : Marks
 
 -- ---- a new monitor: no bans, marks or tickets, and every base quantity at zero
-
-abbrev pub no_day : Day
-no_day = record { taken = 0; last = None; due = Snapshot }
-
-abbrev pub no_row : MarkRow
-no_row = record { sighted = false; count = 0; largest = 0; kept = None }
 
 abbrev pub no_stock : Stock
 no_stock = record { limit = None; ban = false; violated = λ e. 0; charge = λ e. 0 }

@@ -4,11 +4,13 @@ use Rattle.terms.specs.Bounds.{most_entities, most_underlyings, ticket_count}
 use Rattle.terms.specs.declared.mark.Mark.{Mark}
 use Rattle.terms.specs.declared.mark.Mark.TheVariants.{NetLong, NetShort, GrossLong, GrossShort}
 use Rattle.book.specs.Holding.{Holding}
+use Rattle.index.specs.Days.{no_day}
+use Rattle.index.specs.Marks.{no_row, four, four_of}
 use Rattle.model.specs.declared.parts.IndexRecord.{IndexRecord}
 use Rattle.model.specs.declared.parts.StockRecord.{StockRecord}
-use Rattle.model.specs.State.{Quantities, no_day, no_row, no_stock, new_ledger}
+use Rattle.model.specs.State.{Quantities, no_stock, new_ledger}
 use Rattle.stock.specs.Close.{quantity_or_zero, charge_or_zero}
-use Rattle.monitor.specs.View.{tickets_of, no_index, no_record, days_of, stock_in, stocks_of, four, four_of, marks_of}
+use Rattle.monitor.specs.View.{tickets_of, no_index, no_record, days_of, stock_in, stocks_of, marks_of}
 use Rattle.monitor.proofs.Same.{same_everywhere, everywhere_replicate}
 
 four_of_is : {A : Type 0} (a : A) (m : Mark) → four (four_of a) m ≡ a

@@ -1,17 +1,16 @@
 -- What the code's monitor means: its state in the model.
 use Rattle.std.specs.Prelude.{ℕ, false, List, [], None, Option, slice_index_or}
 use Rattle.terms.specs.declared.command.Trade.{Trade}
-use Rattle.terms.specs.declared.mark.Mark.{Mark}
-use Rattle.terms.specs.declared.mark.Mark.TheVariants.{NetLong, NetShort, GrossLong, GrossShort}
 use Rattle.book.specs.Holding.{Holding}
 use Rattle.stock.specs.Close.{base_of, violated_in, charge_in}
 use Rattle.stock.specs.declared.violation.Violation.{Violation}
-use Rattle.model.specs.declared.parts.Day.{Day}
-use Rattle.model.specs.declared.parts.Four.{Four}
+use Rattle.index.specs.declared.day.Day.{Day}
+use Rattle.index.specs.Days.{no_day}
+use Rattle.index.specs.Marks.{no_row, four, four_of}
 use Rattle.model.specs.declared.parts.IndexRecord.{IndexRecord}
 use Rattle.model.specs.declared.parts.StockRecord.{StockRecord}
 use Rattle.model.specs.Opening.{Terms}
-use Rattle.model.specs.State.{Stock, Ledger, Marks, State, no_day, no_row}
+use Rattle.model.specs.State.{Stock, Ledger, Marks, State}
 use Rattle.monitor.specs.Listed.{terms_in}
 use Rattle.monitor.specs.declared.inner.Inner.{Inner}
 use Rattle.monitor.specs.declared.state.Monitor.{Monitor}
@@ -39,15 +38,6 @@ violation_of ks u e = slice_index_or (slice_index_or ks u no_record).violations 
 
 abbrev pub stocks_of : List StockRecord → ℕ → Stock
 stocks_of ks u = stock_in (slice_index_or ks u no_record)
-
-abbrev pub four : {A : Type 0} → Four A → Mark → A
-four r NetLong = r.net_long
-four r NetShort = r.net_short
-four r GrossLong = r.gross_long
-four r GrossShort = r.gross_short
-
-abbrev pub four_of : {A : Type 0} → A → Four A
-four_of a = record { net_long = a; net_short = a; gross_long = a; gross_short = a }
 
 abbrev pub marks_of : List IndexRecord → Marks
 marks_of is u e = four (slice_index_or (slice_index_or is u no_index).marks e (four_of no_row))

@@ -1,0 +1,5 @@
+// An index's day: its snapshots and cures, and what they make of the marks.
+#![tactic(auto)]
+
+pub mod day;
+pub mod mark;
