@@ -1,2 +1,4 @@
+pub mod Bounds
 pub mod Days
 pub mod Marks
+pub mod Values

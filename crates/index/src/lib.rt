@@ -1,5 +1,7 @@
 // An index's day: its snapshots and cures, and what they make of the marks.
 #![tactic(auto)]
 
+pub mod bounds;
 pub mod day;
 pub mod mark;
+pub mod value;
