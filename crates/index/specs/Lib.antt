@@ -2,3 +2,5 @@ pub mod Bounds
 pub mod Days
 pub mod Marks
 pub mod Values
+pub mod Sweeps
+pub mod Calls

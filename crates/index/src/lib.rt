@@ -2,6 +2,9 @@
 #![tactic(auto)]
 
 pub mod bounds;
+pub mod calls;
 pub mod day;
 pub mod mark;
+pub mod readings;
+pub mod sweep;
 pub mod value;
