@@ -4,6 +4,7 @@ use Rattle.terms.specs.declared.limits.Limits.{Limits}
 use Rattle.terms.specs.declared.mark.Mark.{Mark}
 use Rattle.terms.specs.declared.mark.Side.{Side}
 use Rattle.terms.specs.Marks.{side_of}
+use Rattle.cover.specs.Covers.{Amounts}
 use Rattle.index.specs.Marks.{limit_for, is_over, is_final, sighted, finished, cured, settled}
 use Rattle.index.specs.Values.{value_for}
 use Rattle.index.specs.declared.calls.Rule.{Rule}
@@ -32,6 +33,10 @@ abbrev pub told_by : Rule → Limits → ℕ → (ℕ → ℤ × ℤ × ℤ) →
 told_by Sight l price r e m row = over_by l price r e m
 told_by Finish l price r e m row = over_by l price r e m
 told_by Cure l price r e m row = row.sighted && over_by l price r e m
+
+-- what a cover has for each entity and side of one index
+abbrev pub cover_in : Amounts → ℕ → ℕ → Side → ℕ
+cover_in c u e side = c e u side
 
 -- whether the mark is a final breach at a settlement; c has the cover of each entity and side
 abbrev pub final_by : Limits → (ℕ → Side → ℕ) → ℕ → Mark → MarkRow → Bool

@@ -1,16 +1,16 @@
 // The calls of an index's day, by what each makes of a mark.
-ghost use Rattle.std.specs.Prelude.{◌≡◌, ℕ};
-ghost use Rattle.terms.specs.declared.mark.Side.{Side};
+ghost use Rattle.std.specs.Prelude.{◌≡◌};
 ghost use Rattle.index.specs.Values.{reading_in};
-ghost use Rattle.index.specs.Calls.{rule_of, judged_by, told_by, settled_by, final_by};
+ghost use Rattle.index.specs.Calls.{rule_of, judged_by, told_by, settled_by, final_by, cover_in};
 
 use crate::day::Round;
 use crate::mark::{MarkRow, limit_for};
 use crate::sweep::Judge;
 use crate::value::value_for;
+use cover::source::Cover;
 use terms::bounds::MOST_ENTITIES;
 use terms::limits::Limits;
-use terms::mark::{Mark, Side};
+use terms::mark::Mark;
 
 // What a snapshot or a cure does to a mark.
 #[derive(Clone, Copy, PartialEq, Eq, Debug)]
@@ -70,31 +70,23 @@ impl<'r> Judge for Watch<'r> {
     }
 }
 
-// What covers each entity in an index, by side, in paise.
-pub trait Covers {
-    ghost cover: { Self → ℕ → Side → ℕ };
-
-    // The cover of an entity's side.
-    fn cover(&self, entity: usize, side: Side) -> u64
-        ensures { result ≡ cover self.now entity side };
-}
-
-// A settlement: the limits and a cover.
+// A settlement of an index: the limits and a cover.
 #[derive(Clone, Copy)]
-pub struct Settlement<'c, C: Covers> {
+pub struct Settlement<'c, C: Cover> {
     pub limits: Limits,
-    pub covers: &'c C,
+    pub cover: &'c C,
+    pub index: usize,
 }
 
-impl<'c, C: Covers> Judge for Settlement<'c, C> {
-    ghost judged = { λ s. settled_by s.limits (C.Covers.cover s.covers.now) };
+impl<'c, C: Cover> Judge for Settlement<'c, C> {
+    ghost judged = { λ s. settled_by s.limits (cover_in (C.Cover.amount s.cover.now) s.index) };
 
-    ghost tells = { λ s. final_by s.limits (C.Covers.cover s.covers.now) };
+    ghost tells = { λ s. final_by s.limits (cover_in (C.Cover.amount s.cover.now) s.index) };
 
     fn judge(&self, entity: usize, mark: Mark, row: &mut MarkRow) -> bool {
         row.settle(
             limit_for(self.limits, mark),
-            self.covers.cover(entity, mark.side()),
+            self.cover.cover(entity, self.index, mark.side()),
         )
     }
 }
