@@ -4,16 +4,14 @@ use mathlib.Core.Path.{fun_ext}
 use Rattle.std.proofs.lemmas.Bool.{cond_both, eqb-true, eqb-false}
 use Rattle.model.specs.State.{at}
 
-pub same_everywhere : {A : Type 0} (n k : ℕ) (x : A) → get_or (replicate n x) k x ≡ x
-same_everywhere zero k x = refl
-same_everywhere (suc n) zero x = refl
-same_everywhere (suc n) (suc k) x = same_everywhere n k x
-
 -- what holds of a value, and of what stands outside, holds everywhere in a list of that value
 pub everywhere_replicate : {A : Type 0} (P : A → Type 0) (x d : A) (n : ℕ) → P x → P d → (k : ℕ) → P (get_or (replicate n x) k d)
 everywhere_replicate P x d zero p q k = q
 everywhere_replicate P x d (suc n) p q zero = p
 everywhere_replicate P x d (suc n) p q (suc k) = everywhere_replicate P x d n p q k
+
+pub same_everywhere : {A : Type 0} (n k : ℕ) (x : A) → get_or (replicate n x) k x ≡ x
+same_everywhere n k x = everywhere_replicate (λ y. y ≡ x) x x n refl refl k
 
 pub everywhere_at : {A : Type 0} (P : A → Type 0) (k : ℕ) (a : A) (f : ℕ → A) → ((j : ℕ) → P (f j)) → P a → (j : ℕ) → P (at k a f j)
 everywhere_at P k a f h p j = cond_both (eqb j k) a (f j) P (λ _. p) (λ _. h j)
