@@ -44,6 +44,18 @@ day_after round minute d = record { taken = one_more d.taken; last = Some minute
 abbrev pub cured_day : ℕ → Day → Day
 cured_day minute d = record { taken = d.taken; last = Some minute; due = Snapshot }
 
+-- the day waits for a snapshot
+abbrev pub awaits_snapshot : Due → Bool
+awaits_snapshot Snapshot = true
+awaits_snapshot Cure = false
+awaits_snapshot Settlement = false
+
+-- a cure is owed
+abbrev pub owes_cure : Due → Bool
+owes_cure Snapshot = false
+owes_cure Cure = true
+owes_cure Settlement = false
+
 -- the final snapshot was taken
 abbrev pub is_complete : Due → Bool
 is_complete Snapshot = false

@@ -13,7 +13,8 @@ use Rattle.rules.specs.Charge.{charge_of}
 use Rattle.stock.specs.Close.{judges, obeys, violated_by}
 use Rattle.model.specs.Opening.{Listing}
 use Rattle.model.specs.State.{Quantities, Ledger, Stock, at}
-use Rattle.model.specs.Stocks.{weights, net_at, ban_ends, turn_at, base_after, closed_stock}
+use Rattle.model.specs.Readings.{weights, net_at}
+use Rattle.model.specs.Stocks.{ban_ends, turn_at, base_after, closed_stock}
 use Rattle.model.specs.Calls.{close}
 use Rattle.model.specs.Runs.{Run, before, after, book_at, old_base, Accepted, charge_after, Between}
 use Rattle.model.specs.Handbook.{BaseShrinks, MarketShrinks, listing_of}

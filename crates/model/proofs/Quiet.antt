@@ -4,12 +4,12 @@ use Rattle.std.proofs.lemmas.Bool.{cond-false}
 use Rattle.std.specs.List.{slice_get}
 use Rattle.terms.specs.declared.command.Trade.{Trade}
 use Rattle.terms.specs.declared.refusal.Refusal.{Refusal}
-use Rattle.book.specs.Holding.{Holding, reply, posted, settle}
+use Rattle.book.specs.Holding.{Holding, reply, posted, settle as left_by}
 use Rattle.model.specs.Causes.{Verdict}
 use Rattle.model.specs.Opening.{Listing}
 use Rattle.model.specs.State.{State, Ledger}
 use Rattle.model.specs.Custody.{off_member}
-use Rattle.model.specs.Calls.{Call, post, entry, confirm, set_limit, close, ticket_at, confirmed, verdict, number, effect, done, decided}
+use Rattle.model.specs.Calls.{Call, post, entry, confirm, snapshot, cure, settle, set_limit, close, ticket_at, confirmed, verdict, number, effect, done, decided}
 use Rattle.model.specs.Runs.{before, next, is_pair, in_trade, posts_to, posted_at}
 use Rattle.model.specs.Handbook.{OnlyPostingsMove}
 
@@ -21,7 +21,7 @@ or_right : (a b : Bool) → a || b ≡ false → b ≡ false
 or_right true b h = let z : ◌≡◌ {A = Bool} true false = h in cc
 or_right false b h = h
 
-settled : (b : Holding) (e c i j : ℕ) (r : Result ℤ Refusal) → is_pair i j e c ≡ false → (settle b e c r).at i j ≡ b.at i j
+settled : (b : Holding) (e c i j : ℕ) (r : Result ℤ Refusal) → is_pair i j e c ≡ false → (left_by b e c r).at i j ≡ b.at i j
 settled b e c i j (Ok q) h = cond-false (eqb i e && eqb j c) q (b.at i j) h
 settled b e c i j (Err why) h = refl
 
@@ -41,6 +41,9 @@ effect_other : (w : Listing) (l : Ledger) (c : Call) (i j : ℕ) → posts_to l 
 effect_other w l (post e c x) i j h = posted_other l.book e c x i j h
 effect_other w l (entry k d) i j h = posted_other l.book d.member d.contract d.change i j h
 effect_other w l (confirm k) i j h = confirmed_other l.book (ticket_at l k) i j h
+effect_other w l (snapshot u d) i j h = refl
+effect_other w l (cure u d) i j h = refl
+effect_other w l (settle u c) i j h = refl
 effect_other w l (set_limit u f ds) i j h = refl
 effect_other w l (close u two d) i j h = refl
 

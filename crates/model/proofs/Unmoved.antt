@@ -11,8 +11,9 @@ use Rattle.stock.specs.Close.{in_force, turn_of, obeys, violated_by}
 use Rattle.model.specs.Causes.{Verdict, cause_in}
 use Rattle.model.specs.Opening.{Listing, Terms}
 use Rattle.model.specs.State.{State, Ledger, Stock}
-use Rattle.model.specs.Stocks.{weights, net_at, ban_begins, ban_ends, base_after}
-use Rattle.model.specs.Calls.{Call, post, entry, confirm, set_limit, close, verdict, number, done, decided, step}
+use Rattle.model.specs.Readings.{weights, net_at}
+use Rattle.model.specs.Stocks.{ban_begins, ban_ends, base_after}
+use Rattle.model.specs.Calls.{Call, post, entry, confirm, snapshot, cure, settle, set_limit, close, verdict, number, done, decided, step}
 use Rattle.model.specs.Runs.{Run, before, after, next, refusal_of, book_at, old_base, new_base, Accepted, Banned, BanStart, CloseOf, charge_after}
 use Rattle.model.specs.Handbook.{listing_of, Unmoved, UnmovedIsFree}
 use Rattle.model.proofs.Signs.{self_free}
@@ -47,6 +48,9 @@ base_turns s u (Err why) n c = inr (λ e k w. refl)
 base_turns s u (Ok ok) n (post e c x) = inr (λ e k w. refl)
 base_turns s u (Ok ok) n (entry k d) = inr (λ e k w. refl)
 base_turns s u (Ok ok) n (confirm k) = inr (λ e k w. refl)
+base_turns s u (Ok ok) n (snapshot v d) = inr (λ e k w. refl)
+base_turns s u (Ok ok) n (cure v d) = inr (λ e k w. refl)
+base_turns s u (Ok ok) n (settle v c) = inr (λ e k w. refl)
 base_turns s u (Ok ok) n (set_limit v f ds) = inr (λ e k w. refl)
 base_turns s u (Ok ok) n (close v two d) =
     ⊎_elim (λ (q : v ≡ u). inl (two, d, ap (λ (i : ℕ). close i two d) q, refl))

@@ -7,6 +7,12 @@ use Rattle.terms.specs.declared.refusal.Refusal.{Refusal}
 use Rattle.terms.specs.declared.refusal.Refusal.TheVariants.{Closed, Ticket, Pair}
 use Rattle.book.specs.Holding.{Holding, quantity_of, inside, reply, posted}
 use Rattle.delta.specs.Sources.{Source}
+use Rattle.cover.specs.Covers.{Amounts}
+use Rattle.index.specs.Calls.{rule_of}
+use Rattle.index.specs.Marks.{no_row}
+use Rattle.index.specs.declared.calls.Rule.TheVariants as rule
+use Rattle.index.specs.declared.mark.MarkRow.{MarkRow}
+use Rattle.terms.specs.declared.mark.Mark.{Mark}
 use Rattle.delta.specs.Makes.{notional}
 use Rattle.reading.specs.Sheets.{weight_of, lacks_delta}
 use Rattle.reading.specs.Readings.{reading_of, interest, gross}
@@ -14,14 +20,18 @@ use Rattle.reading.specs.Missing.{holds, missing}
 use Rattle.rules.specs.Limit.{limit_of}
 use Rattle.model.specs.Causes.{Answer, Verdict, unless, verdict_of, number_in}
 use Rattle.model.specs.Opening.{Listing, Terms, is_open}
-use Rattle.model.specs.State.{Ledger, State, with_book, with_ticket}
+use Rattle.model.specs.State.{Ledger, Marks, State, with_book, with_ticket}
 use Rattle.model.specs.Custody.{transferred, transfer_reply}
+use Rattle.model.specs.Indices.{of_snapshot, of_cure, of_settlement, round_of, snapped_day, cured_at, cleared_day, watched, watched_count, settled_marks, final_count}
 use Rattle.model.specs.Stocks.{of_limit, of_close, limit_in, charged_at, closed, limited}
 
 pub data Call : Type 0 where
   post : (entity contract : ℕ) (change : ℤ) → Call
   entry : (ticket : ℕ) (trade : Trade) → Call
   confirm : (ticket : ℕ) → Call
+  snapshot : (underlying : ℕ) (source : Source) → Call
+  cure : (underlying : ℕ) (source : Source) → Call
+  settle : (underlying : ℕ) (cover : Amounts) → Call
   set_limit : (underlying free_float : ℕ) (deliveries : List ℕ) → Call
   close : (underlying : ℕ) (two closing : Source) → Call
 
@@ -53,6 +63,9 @@ abbrev pub of_call : Listing → Ledger → Call → Verdict
 of_call l s (post e c x) = verdict_of (reply s.book e c x)
 of_call l s (entry k d) = of_entry s k d
 of_call l s (confirm k) = of_confirm s (ticket_at s k)
+of_call l s (snapshot u d) = of_snapshot l s u d
+of_call l s (cure u d) = of_cure l s u d
+of_call l s (settle u c) = of_settlement l s u
 of_call l s (set_limit u f ds) = of_limit l u f ds
 of_call l s (close u two d) = of_close l s u two d
 
@@ -69,11 +82,15 @@ abbrev pub confirm_reply : Ledger → Option Trade → Answer
 confirm_reply s None = Err Ticket
 confirm_reply s (Some d) = transfer_reply s.book d
 
--- the new quantity of the last pair posted; nothing for a limit; how many are charged at a close
+-- the new quantity of the last pair posted; how many marks are sighted or made provisional, or are final breaches;
+-- nothing for a limit; how many are charged at a close
 abbrev pub number : State → Call → ℤ
 number s (post e c x) = number_in (reply s.ledger.book e c x)
 number s (entry k d) = number_in (reply s.ledger.book d.member d.contract d.change)
 number s (confirm k) = number_in (confirm_reply s.ledger (ticket_at s.ledger k))
+number s (snapshot u d) = pos (watched_count (rule_of (round_of d)) s.terms s.ledger.book.at s.marks u d)
+number s (cure u d) = pos (watched_count rule.Cure s.terms s.ledger.book.at s.marks u d)
+number s (settle u c) = pos (final_count s.terms s.marks u c)
 number s (set_limit u f ds) = pos 0
 number s (close u two d) = pos (charged_at s.terms.listing s.ledger u two d)
 
@@ -87,14 +104,25 @@ abbrev pub effect : Listing → Ledger → Call → Ledger
 effect l s (post e c x) = with_book s (posted s.book e c x)
 effect l s (entry k d) = with_ticket (with_book s (posted s.book d.member d.contract d.change)) k (Some d)
 effect l s (confirm k) = with_ticket (with_book s (confirmed s.book (ticket_at s k))) k None
+effect l s (snapshot u d) = snapped_day s u d
+effect l s (cure u d) = cured_at s u d
+effect l s (settle u c) = cleared_day s u
 effect l s (set_limit u f ds) = limited s u (limit_of f ds)
 effect l s (close u two d) = closed l s u two d
+
+-- ---- what an accepted call makes of the marks: limits and covers count here, and nowhere else
+
+abbrev pub remarked : State → Call → Marks
+remarked s (snapshot u d) = watched (rule_of (round_of d)) s.terms s.ledger.book.at s.marks u d
+remarked s (cure u d) = watched rule.Cure s.terms s.ledger.book.at s.marks u d
+remarked s (settle u c) = settled_marks s.terms s.marks u c
+remarked s other = s.marks
 
 -- ---- a call
 
 -- what an accepted call leaves
 abbrev pub done : State → Call → State
-done s c = record { terms = s.terms; ledger = effect s.terms.listing s.ledger c; marks = s.marks }
+done s c = record { terms = s.terms; ledger = effect s.terms.listing s.ledger c; marks = remarked s c }
 
 -- a declined call leaves all as it was
 abbrev pub decided : Verdict → ℤ → State → State → Answer × State
@@ -133,6 +161,10 @@ violated_answer s u e = if_open s ((s.ledger.stocks u).violated e) 0
 
 abbrev pub charge_answer : State → ℕ → ℕ → ℕ
 charge_answer s u e = if_open s ((s.ledger.stocks u).charge e) 0
+
+-- a mark of an entity on an index's day, with what the last settlement kept of it
+abbrev pub mark_answer : State → ℕ → ℕ → Mark → MarkRow
+mark_answer s u e m = if_open s (s.marks u e m) no_row
 
 -- net, long and short of an entity, where w has what a unit of each contract weighs
 abbrev pub reading_on : State → (ℕ → ℤ) → ℕ → ℤ × ℤ × ℤ

@@ -6,7 +6,7 @@ use Rattle.book.specs.Equal.{EqualInMeaning}
 use Rattle.delta.specs.Sources.{Source, EqualSources}
 use Rattle.reading.specs.Sheets.{within}
 use Rattle.model.specs.Opening.{Listing, terms_of, is_open}
-use Rattle.model.specs.Stocks.{net_at, interest_at}
+use Rattle.model.specs.Readings.{net_at, interest_at}
 use Rattle.model.specs.Calls.{Call, close}
 use Rattle.model.specs.Runs.{Run, before, after, book_at, refusal_at, outcome_from, outcome, followed_by, posted_at, old_base, new_base, charge_after, CloseOf, Between}
 use Rattle.model.specs.State.{opened}

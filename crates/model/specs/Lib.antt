@@ -1,8 +1,10 @@
-pub mod Causes
 pub mod Opening
+pub mod Causes
 pub mod State
+pub mod Readings
 pub mod Custody
 pub mod Stocks
+pub mod Indices
 pub mod Calls
 pub mod Runs
 pub mod Handbook

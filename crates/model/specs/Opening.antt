@@ -63,6 +63,11 @@ is_listed us u = nat_lt u (length us)
 abbrev pub is_stock_at : List Underlying → ℕ → Bool
 is_stock_at us u = is_stock (slice_index_or us u Index)
 
+-- the underlying is of this kind
+abbrev pub is_kind_at : List Underlying → Underlying → ℕ → Bool
+is_kind_at us Index u = not (is_stock_at us u)
+is_kind_at us Stock u = is_stock_at us u
+
 -- a contract names a listed underlying, and is no future on an index
 abbrev pub sound_contract : List Underlying → Contract → Bool
 sound_contract us c = is_listed us c.underlying && not (is_future c.kind && not (is_stock_at us c.underlying))

@@ -7,7 +7,7 @@ use Rattle.delta.specs.Sources.{Source}
 use Rattle.model.specs.Causes.{Answer, cause_in}
 use Rattle.model.specs.Opening.{Opening}
 use Rattle.model.specs.State.{Quantities, Ledger, State, opened}
-use Rattle.model.specs.Calls.{Call, post, entry, confirm, set_limit, close, ticket_at, step}
+use Rattle.model.specs.Calls.{Call, post, entry, confirm, close, ticket_at, step}
 
 pub record Run : Type 0 where
   pub opening : Opening
@@ -115,8 +115,7 @@ abbrev pub posts_to : Ledger → Call → ℕ → ℕ → Bool
 posts_to s (post e' c' x) e c = is_pair e c e' c'
 posts_to s (entry k d) e c = is_pair e c d.member d.contract
 posts_to s (confirm k) e c = in_trade (ticket_at s k) e c
-posts_to s (set_limit u f ds) e c = false
-posts_to s (close u two d) e c = false
+posts_to s other e c = false
 
 -- some call at place k posts to the pair
 abbrev pub posted_at : Ledger → Option Call → ℕ → ℕ → Bool

@@ -62,3 +62,6 @@ with_book s b = record { book = b; base = s.base; tickets = s.tickets; days = s.
 
 abbrev pub with_ticket : Ledger → ℕ → Option Trade → Ledger
 with_ticket s k d = record { book = s.book; base = s.base; tickets = at k d s.tickets; days = s.days; stocks = s.stocks }
+
+abbrev pub with_day : Ledger → ℕ → Day → Ledger
+with_day s u day = record { book = s.book; base = s.base; tickets = s.tickets; days = at u day s.days; stocks = s.stocks }

@@ -1,39 +1,22 @@
 -- The stock and its ban: what a close finds, and what it leaves.
 use Rattle.std.specs.Prelude.{ℕ, Bool, cond, not, ◌&&◌, ◌||◌, List, [], ◌∷◌, ℤ, Some, None, Ok, Option, ◌==◌, is_none}
-use Rattle.terms.specs.Bounds.{price_bound, two_minute, close_minute}
+use Rattle.terms.specs.Bounds.{two_minute, close_minute}
 use Rattle.terms.specs.declared.refusal.Refusal.{Refusal}
-use Rattle.terms.specs.declared.refusal.Refusal.TheVariants.{Underlying, Kind, Unset, Time, Price}
+use Rattle.terms.specs.declared.refusal.Refusal.TheVariants.{Unset, Time, Price}
 use Rattle.delta.specs.Sources.{Source}
-use Rattle.reading.specs.Sheets.{within, weight_of, lacks_delta}
-use Rattle.reading.specs.Readings.{net, interest}
+use Rattle.reading.specs.Sheets.{within, lacks_delta}
 use Rattle.reading.specs.Missing.{holds, holds_either, missing}
 use Rattle.rules.specs.Ban.{begins, ends}
 use Rattle.rules.specs.Limit.{limit_asked}
 use Rattle.stock.specs.declared.turn.Turn.{Turn}
 use Rattle.stock.specs.Close.{turn_of, in_force, closed_base, closed_violated, closed_charge, charged_count}
-use Rattle.model.specs.Causes.{Verdict, unless, unless_missing, verdict_of}
-use Rattle.model.specs.Opening.{Listing, in_range, is_listed, is_stock_at}
+use Rattle.terms.specs.declared.kind.Underlying.TheVariants as kind
+use Rattle.model.specs.Causes.{Verdict, unless, unless_missing, verdict_of, kind_table}
+use Rattle.model.specs.Opening.{Listing}
+use Rattle.model.specs.Readings.{weights, interest_at, is_unpriced}
 use Rattle.model.specs.State.{Quantities, Stock, Ledger, at}
 
--- ---- readings
-
--- the deltas of the underlying's contracts
-abbrev pub weights : Listing → ℕ → Source → ℕ → ℤ
-weights l u d = weight_of l.contracts u d.delta
-
--- an entity's net of some quantities in the underlying, at these deltas
-abbrev pub net_at : Listing → ℕ → Source → Quantities → ℕ → ℤ
-net_at l u d q e = net (weights l u d) q e
-
--- market open interest in the underlying, at these deltas
-abbrev pub interest_at : Listing → ℕ → Source → Quantities → ℕ
-interest_at l u d q = interest l.entities (weights l u d) q
-
 -- ---- the causes, in the table's order
-
--- UNDERLYING, then KIND, for a call on a stock
-abbrev pub stock_table : Listing → ℕ → List (Bool × Refusal)
-stock_table l u = (not (is_listed l.underlyings u), Underlying) ∷ (not (is_stock_at l.underlyings u), Kind) ∷ []
 
 -- a close at a minute that is not permitted; the two o'clock deltas count in a ban only
 abbrev pub untimely : Stock → Source → Source → Bool
@@ -44,7 +27,7 @@ abbrev pub close_table : Stock → Source → Source → List (Bool × Refusal)
 close_table k two d =
     (is_none k.limit, Unset)
     ∷ (untimely k two d, Time)
-    ∷ (not (in_range 1 price_bound d.price), Price)
+    ∷ (is_unpriced d, Price)
     ∷ []
 
 -- DELTA at closing deltas wherever the book is non-zero; in a ban, then at two o'clock deltas wherever book or base is;
@@ -58,11 +41,11 @@ abbrev pub of_deltas : Listing → Ledger → ℕ → Source → Source → Verd
 of_deltas l s u two d = delta_verdict l.entities s (s.stocks u).ban (lacks_delta l.contracts u two.delta) (lacks_delta l.contracts u d.delta)
 
 abbrev pub of_close : Listing → Ledger → ℕ → Source → Source → Verdict
-of_close l s u two d = unless (stock_table l u) (unless (close_table (s.stocks u) two d) (of_deltas l s u two d))
+of_close l s u two d = unless (kind_table l kind.Stock u) (unless (close_table (s.stocks u) two d) (of_deltas l s u two d))
 
 -- limit setting: INPUT for a number that is out of range
 abbrev pub of_limit : Listing → ℕ → ℕ → List ℕ → Verdict
-of_limit l u f ds = unless (stock_table l u) (verdict_of (limit_asked f ds))
+of_limit l u f ds = unless (kind_table l kind.Stock u) (verdict_of (limit_asked f ds))
 
 -- ---- what a close finds
 
