@@ -16,8 +16,8 @@ use Rattle.model.specs.State.{Quantities, Ledger, Stock, at}
 use Rattle.model.specs.Readings.{weights, net_at}
 use Rattle.model.specs.Stocks.{ban_ends, turn_at, base_after, closed_stock}
 use Rattle.model.specs.Calls.{close}
-use Rattle.model.specs.Runs.{Run, before, after, book_at, old_base, Accepted, charge_after, Between}
-use Rattle.model.specs.Handbook.{BaseShrinks, MarketShrinks, listing_of}
+use Rattle.model.specs.Runs.{Run, before, after, listing_of, book_at, old_base, Accepted, charge_after, Between}
+use Rattle.model.specs.Handbook.{BaseShrinks, MarketShrinks}
 use Rattle.model.proofs.Signs.{total_zero, sum_mono, between_self, between_zero, between_true, no_violation, between_size, free_of_charge}
 use Rattle.model.proofs.Places.{after_accepted}
 

@@ -1,5 +1,11 @@
 pub mod Places
 pub mod Limits
+pub mod Larger
+pub mod Events
+pub mod Days
+pub mod HowMany
+pub mod Marks
+pub mod Truth
 pub mod Quiet
 pub mod Signs
 pub mod Ban

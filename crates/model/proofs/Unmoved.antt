@@ -14,8 +14,8 @@ use Rattle.model.specs.State.{State, Ledger, Stock}
 use Rattle.model.specs.Readings.{weights, net_at}
 use Rattle.model.specs.Stocks.{ban_begins, ban_ends, base_after}
 use Rattle.model.specs.Calls.{Call, post, entry, confirm, snapshot, cure, settle, set_limit, close, verdict, number, done, decided, step}
-use Rattle.model.specs.Runs.{Run, before, after, next, refusal_of, book_at, old_base, new_base, Accepted, Banned, BanStart, CloseOf, charge_after}
-use Rattle.model.specs.Handbook.{listing_of, Unmoved, UnmovedIsFree}
+use Rattle.model.specs.Runs.{Run, before, after, listing_of, next, refusal_of, book_at, old_base, new_base, Accepted, Banned, BanStart, CloseOf, charge_after}
+use Rattle.model.specs.Handbook.{Unmoved, UnmovedIsFree}
 use Rattle.model.proofs.Signs.{self_free}
 use Rattle.model.proofs.Places.{terms_stay, after_accepted}
 use Rattle.model.proofs.Ban.{net_same, closed_charge_is, closed_free, stock_after}

@@ -1,14 +1,20 @@
 -- The laws: what holds of every run.
-use Rattle.std.specs.Prelude.{◌≡◌, ℕ, ◌<◌, ◌≤◌, true, false, List, [], ◌∷◌, take, Some}
+use Rattle.std.specs.Prelude.{◌≡◌, ℕ, ◌<◌, ◌≤◌, true, false, ◌↔◌, List, [], ◌∷◌, take, pos, Some, Ok}
 use Rattle.std.specs.List.{slice_get}
+use Rattle.terms.specs.declared.mark.Mark.{Mark}
 use Rattle.terms.specs.declared.refusal.Refusal.{Refusal}
 use Rattle.book.specs.Equal.{EqualInMeaning}
 use Rattle.delta.specs.Sources.{Source, EqualSources}
 use Rattle.reading.specs.Sheets.{within}
-use Rattle.model.specs.Opening.{Listing, terms_of, is_open}
+use Rattle.cover.specs.Covers.{Amounts, NowhereSmaller}
+use Rattle.index.specs.declared.day.Round.TheVariants.{Regular, Final}
+use Rattle.index.specs.declared.mark.MarkRow.{MarkRow}
+use Rattle.index.specs.Days.{round_at}
+use Rattle.model.specs.Opening.{terms_of, is_open}
 use Rattle.model.specs.Readings.{net_at, interest_at}
-use Rattle.model.specs.Calls.{Call, close}
-use Rattle.model.specs.Runs.{Run, before, after, book_at, refusal_at, outcome_from, outcome, followed_by, posted_at, old_base, new_base, charge_after, CloseOf, Between}
+use Rattle.model.specs.Calls.{Call, snapshot, cure, settle, close}
+use Rattle.model.specs.Runs.{Run, before, after, book_at, listing_of, refusal_at, answer_at, Accepted, outcome_from, outcome, followed_by, posted_at, old_base, new_base, charge_after, CloseOf, Between}
+use Rattle.model.specs.Breaches.{Over, Sighted, ProvisionalAt, Provisional, Breached, LargestOrNone, FinalAt, FinalBreach, Stands, HowMany, HowManyMarks}
 use Rattle.model.specs.State.{opened}
 
 -- ---- the monitor is the outcome of its calls
@@ -21,24 +27,27 @@ Outcomes = (r : Run) (k : ℕ) → before r k ≡ outcome_from (opened r.opening
 abbrev pub GoesOn : Type 0
 GoesOn = (r : Run) (more : List Call) → outcome (followed_by r more) ≡ outcome_from (outcome r) more
 
--- ---- limits refuse nothing
+-- ---- limits and covers refuse nothing, and larger ones add no breach
 
--- the same call, but that delta sources are equal in meaning
-pub data Same : Call → Call → Type 0 where
-  same : {c : Call} → Same c c
-  closes : {u : ℕ} {two two' d d' : Source} → EqualSources two two' → EqualSources d d' → Same (close u two d) (close u two' d')
+-- the same call, but that delta sources are equal in meaning, and the two covers of a settlement are as R has it
+pub data Same (R : Amounts → Amounts → Type 0) : Call → Call → Type 0 where
+  same : {c : Call} → Same R c c
+  snapshots : {u : ℕ} {d d' : Source} → EqualSources d d' → Same R (snapshot u d) (snapshot u d')
+  cures : {u : ℕ} {d d' : Source} → EqualSources d d' → Same R (cure u d) (cure u d')
+  settlements : {u : ℕ} {a a' : Amounts} → R a a' → Same R (settle u a) (settle u a')
+  closes : {u : ℕ} {two two' d d' : Source} → EqualSources two two' → EqualSources d d' → Same R (close u two d) (close u two' d')
 
-pub data SameCalls : List Call → List Call → Type 0 where
-  none : SameCalls [] []
-  more : {c c' : Call} {cs cs' : List Call} → Same c c' → SameCalls cs cs' → SameCalls (c ∷ cs) (c' ∷ cs')
+pub data SameCalls (R : Amounts → Amounts → Type 0) : List Call → List Call → Type 0 where
+  none : SameCalls R [] []
+  more : {c c' : Call} {cs cs' : List Call} → Same R c c' → SameCalls R cs cs' → SameCalls R (c ∷ cs) (c' ∷ cs')
 
 -- two open monitors with the same contracts and underlyings, books equal in meaning, and the same calls
-pub record SameButLimits (r r' : Run) : Type 0 where
+pub record SameButLimits (R : Amounts → Amounts → Type 0) (r r' : Run) : Type 0 where
   pub both_open : (is_open (terms_of r.opening) ≡ true) × (is_open (terms_of r'.opening) ≡ true)
   pub books : EqualInMeaning r.opening.book r'.opening.book
   pub contracts : r.opening.contracts ≡ r'.opening.contracts
   pub underlyings : r.opening.underlyings ≡ r'.opening.underlyings
-  pub calls : SameCalls r.calls r'.calls
+  pub calls : SameCalls R r.calls r'.calls
 
 -- what the two have in common at place k and after it
 pub record Agree (r r' : Run) (k : ℕ) : Type 0 where
@@ -48,15 +57,67 @@ pub record Agree (r r' : Run) (k : ℕ) : Type 0 where
   pub bases : (e c : ℕ) → new_base r k e c ≡ new_base r' k e c
   pub charges : (u e : ℕ) → charge_after r k u e ≡ charge_after r' k u e
 
--- whatever the limits, the same calls are refused, with all that they tell, and leave equal books, bans, bases, charges
+-- covers of any amounts
+abbrev pub AnyCovers : Amounts → Amounts → Type 0
+AnyCovers a a' = Unit {0}
+
+-- whatever the limits and covers, the same calls are refused, with all that they tell, and leave equal books, bans, bases,
+-- charges
 abbrev pub LimitsRefuseNothing : Type 0
-LimitsRefuseNothing = (r r' : Run) → SameButLimits r r' → (k : ℕ) → Agree r r' k
+LimitsRefuseNothing = (r r' : Run) → SameButLimits AnyCovers r r' → (k : ℕ) → Agree r r' k
+
+-- two such monitors of which the second's limits and covers are nowhere smaller
+pub record Larger (r r' : Run) : Type 0 where
+  pub alike : SameButLimits NowhereSmaller r r'
+  pub net : r.opening.limits.net ≤ r'.opening.limits.net
+  pub gross : r.opening.limits.gross ≤ r'.opening.limits.gross
+
+-- they agree at place k, and each breach of the second is the first's
+pub record NoneAdded (r r' : Run) (k : ℕ) : Type 0 where
+  pub agree : Agree r r' k
+  pub provisional : (e : ℕ) (m : Mark) → Provisional r' k e m → Provisional r k e m
+  pub final : (e : ℕ) (m : Mark) → FinalBreach r' k e m → FinalBreach r k e m
+
+-- larger limits and covers never add a breach
+abbrev pub LargerAddsNoBreach : Type 0
+LargerAddsNoBreach = (r r' : Run) → Larger r r' → (k : ℕ) → NoneAdded r r' k
+
+-- ---- the marks tell the truth
+
+-- the call at place k answers how many marks of watched entities have the property
+pub record AnswersHowMany (r : Run) (k : ℕ) (P : ℕ → Mark → Type 0) : Type 0 where
+  pub number : ℕ
+  pub counts : HowManyMarks r.opening.book.entities P number
+  pub answer : answer_at r k ≡ Some (Ok (pos number))
+
+-- a regular snapshot answers how many marks are over, a final one and a cure how many are provisional breaches there, a
+-- settlement how many are final ones
+pub record AnswersCount (r : Run) (k u : ℕ) : Type 0 where
+  pub regular : (d : Source) → Accepted r k (snapshot u d) → round_at d.minute ≡ Some Regular → AnswersHowMany r k (Over r k u d)
+  pub final : (d : Source) → Accepted r k (snapshot u d) → round_at d.minute ≡ Some Final → AnswersHowMany r k (ProvisionalAt r k u d)
+  pub cure : (d : Source) → Accepted r k (cure u d) → AnswersHowMany r k (ProvisionalAt r k u d)
+  pub settlement : (c : Amounts) → Accepted r k (settle u c) → AnswersHowMany r k (λ e m. (v : ℕ) × FinalAt r k u c e m v)
+
+-- every such answer is that number
+abbrev pub AnswersTellTheTruth : Type 0
+AnswersTellTheTruth = (r : Run) (k u : ℕ) → AnswersCount r k u
+
+-- what a mark's row says of the mark just before place k
+pub record Truthful (r : Run) (k u e : ℕ) (m : Mark) (row : MarkRow) : Type 0 where
+  -- whether it is sighted
+  pub sighted : (row.sighted ≡ true) ↔ Sighted r k u e m
+  -- how many provisional breaches it has since the index's last settlement
+  pub count : HowMany (Breached r k u e m) k row.count
+  -- the largest value of theirs
+  pub largest : LargestOrNone r k u e m row.largest
+  -- the final breach of that settlement, if it is one, with its value
+  pub kept : (v : ℕ) → (row.kept ≡ Some v) ↔ Stands r k u e m v
+
+-- every row says what is so
+abbrev pub MarksTellTheTruth : Type 0
+MarksTellTheTruth = (r : Run) (k u e : ℕ) (m : Mark) → Truthful r k u e m ((before r k).marks u e m)
 
 -- ---- whoever does not move is never charged
-
--- what is watched in a run
-abbrev pub listing_of : Run → Listing
-listing_of r = (terms_of r.opening).listing
 
 -- at each close through place k of the ban that began at place s, the entity's quantities in the stock are those at its
 -- start
@@ -101,6 +162,9 @@ pub record Handbook : Type 0 where
   pub outcomes : Outcomes
   pub goes_on : GoesOn
   pub limits : LimitsRefuseNothing
+  pub larger : LargerAddsNoBreach
+  pub answers : AnswersTellTheTruth
+  pub marks : MarksTellTheTruth
   pub declined : DeclinedChangesNothing
   pub terms : TermsStay
   pub postings : OnlyPostingsMove

@@ -7,4 +7,5 @@ pub mod Stocks
 pub mod Indices
 pub mod Calls
 pub mod Runs
+pub mod Breaches
 pub mod Handbook

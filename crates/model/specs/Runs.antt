@@ -5,13 +5,17 @@ use Rattle.terms.specs.declared.command.Trade.{Trade}
 use Rattle.terms.specs.declared.refusal.Refusal.{Refusal}
 use Rattle.delta.specs.Sources.{Source}
 use Rattle.model.specs.Causes.{Answer, cause_in}
-use Rattle.model.specs.Opening.{Opening}
+use Rattle.model.specs.Opening.{Opening, Listing, terms_of}
 use Rattle.model.specs.State.{Quantities, Ledger, State, opened}
 use Rattle.model.specs.Calls.{Call, post, entry, confirm, close, ticket_at, step}
 
 pub record Run : Type 0 where
   pub opening : Opening
   pub calls : List Call
+
+-- what is watched in a run
+abbrev pub listing_of : Run → Listing
+listing_of r = (terms_of r.opening).listing
 
 -- ---- what a list of calls leaves, and what they are answered
 
@@ -56,6 +60,14 @@ refusal_of s (Some c) = cause_in (step s c).0
 -- what the call at place k was declined for, with all that it tells, if it was
 abbrev pub refusal_at : Run → ℕ → Option Refusal
 refusal_at r k = refusal_of (before r k) (slice_get r.calls k)
+
+abbrev pub answer_of : State → Option Call → Option Answer
+answer_of s None = None
+answer_of s (Some c) = Some (step s c).0
+
+-- what the call at place k was answered
+abbrev pub answer_at : Run → ℕ → Option Answer
+answer_at r k = answer_of (before r k) (slice_get r.calls k)
 
 -- place k holds the call c, and it was accepted
 pub record Accepted (r : Run) (k : ℕ) (c : Call) : Type 0 where
