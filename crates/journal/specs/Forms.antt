@@ -4,12 +4,12 @@ use Rattle.std.specs.Prelude.{ℕ, ◌-◌, ◌*◌, cond, take, drop, List, [],
 use Rattle.terms.specs.declared.command.Command.TheVariants as command
 use Rattle.text.specs.Words.{is_text, words_of, count_before}
 use Rattle.text.specs.Worded.{unsigned_of}
-use Rattle.journal.specs.Bounds.{book_side, book_places}
-use Rattle.journal.specs.Names.{name_in, verbs, topics, layouts, underlyings, kinds, makes}
-use Rattle.journal.specs.Said.{row_of, Sourced, Asked, quantity, base, limit, ban, violated, charge, notional, reading, Said, blank, declare, call, set_limit, close, ask}
+use Rattle.journal.specs.Bounds.{book_side, book_places, report_rows}
+use Rattle.journal.specs.Names.{name_in, verbs, topics, layouts, underlyings, kinds, makes, classes, covers, marks}
+use Rattle.journal.specs.Said.{row_of, Sourced, Asked, quantity, base, limit, ban, violated, charge, notional, reading, mark, Said, blank, declare, call, set_limit, close, snapshot, cure, cash, holding, settle, report, ask}
 use Rattle.journal.specs.Taken.{then, result_map, counted, beyond, begins, numeral, unsigned_numeral, next_by, next_up_to, all_read}
 use Rattle.replies.specs.declared.fault.Fault.{Fault}
-use Rattle.replies.specs.declared.fault.Fault.TheVariants.{NotText, NotYet, OutOfRange}
+use Rattle.replies.specs.declared.fault.Fault.TheVariants.{NotText, OutOfRange}
 use Rattle.journal.specs.declared.line.Declaration.TheVariants as declaration
 use Rattle.journal.specs.declared.line.Layout.{Layout}
 use Rattle.journal.specs.declared.line.Layout.TheVariants as layout
@@ -68,10 +68,6 @@ passing f ws = f (drop 1 ws)
 abbrev pub says : {X : Type 0} → X → Form X
 says x ws = Ok x
 
--- a form of the format that is not yet available
-abbrev pub not_yet : Form Said
-not_yet ws = Err NotYet
-
 -- ENTITIES CONTRACTS PLACES
 abbrev pub placed : Layout → Form Said
 placed l =
@@ -114,8 +110,12 @@ abbrev pub to_notional : Form Asked
 to_notional = exact 2 (index (λ underlying. says (reading underlying None)))
 
 -- UNDERLYING SOURCE
-abbrev pub to_source : Form Asked
-to_source = at_least 4 (λ rows. index (λ underlying. source rows (λ s. says (reading underlying (Some s)))))
+abbrev pub one_source : Form (ℕ × Sourced)
+one_source = at_least 4 (λ rows. index (λ underlying. source rows (λ s. says (underlying, s))))
+
+-- UNDERLYING ENTITY MARK
+abbrev pub one_mark : Form Asked
+one_mark = exact 3 (index (λ underlying. index (λ entity. kind_in marks (λ which. says (mark underlying entity which)))))
 
 -- the words behind `ask quantity` and the other questions
 abbrev pub ask_form : Topic → Form Asked
@@ -126,8 +126,8 @@ ask_form topic.Ban ws = result_map ban (one_number ws)
 ask_form topic.Violated ws = result_map (λ p. violated p.0 p.1) (two_numbers ws)
 ask_form topic.Charge ws = result_map (λ p. charge p.0 p.1) (two_numbers ws)
 ask_form topic.Notional ws = result_map notional (one_number ws)
-ask_form topic.Reading ws = cond (begins (codes "notional") (drop 1 ws)) (to_notional ws) (to_source ws)
-ask_form topic.Later ws = Err NotYet
+ask_form topic.Reading ws = cond (begins (codes "notional") (drop 1 ws)) (to_notional ws) (result_map (λ p. reading p.0 (Some p.1)) (one_source ws))
+ask_form topic.Mark ws = one_mark ws
 
 -- the words behind the first one
 abbrev pub form_of : Verb → Form Said
@@ -150,7 +150,14 @@ form_of verb.Limit =
 form_of verb.Close =
     around 4 4 (λ before behind. index (λ underlying. source before (λ two. passing (source behind (λ closing.
     says (close underlying two closing))))))
-form_of verb.Later = not_yet
+form_of verb.Snapshot = λ ws. result_map (λ p. snapshot p.0 p.1) (one_source ws)
+form_of verb.Cure = λ ws. result_map (λ p. cure p.0 p.1) (one_source ws)
+form_of verb.Cash = exact 3 (index (λ entity. index (λ underlying. index (λ amount. says (cash entity underlying amount)))))
+form_of verb.Holding =
+    exact 4 (index (λ entity. kind_in classes (λ class. index (λ quantity. index (λ price.
+    says (holding (record { entity = entity; class = class; quantity = quantity; price = price })))))))
+form_of verb.Settle = exact 2 (index (λ underlying. kind_in covers (λ cover. says (settle underlying cover))))
+form_of verb.Report = exact 2 (index (λ underlying. up_to report_rows (λ rows. says (report underlying rows))))
 
 -- a line's words
 abbrev pub read_words : Form Said

@@ -1,12 +1,18 @@
 -- The words that name something.
 use Rattle.std.specs.Prelude.{ℕ, List, [], ◌∷◌, codes, Option, Result, option_map, ok_or, find}
 use Rattle.std.specs.Str.{bytes_eq}
+use Rattle.cover.specs.declared.depository.Class.{Class}
+use Rattle.cover.specs.declared.depository.Class.TheVariants.{Equity, Other}
 use Rattle.replies.specs.declared.fault.Fault.{Fault}
 use Rattle.replies.specs.declared.fault.Fault.TheVariants.{UnknownWord}
 use Rattle.terms.specs.declared.kind.Kind.{Kind}
 use Rattle.terms.specs.declared.kind.Kind.TheVariants.{Future, Call, Put}
 use Rattle.terms.specs.declared.kind.Underlying.{Underlying}
 use Rattle.terms.specs.declared.kind.Underlying.TheVariants.{Index, Stock}
+use Rattle.terms.specs.declared.mark.Mark.{Mark}
+use Rattle.terms.specs.declared.mark.Mark.TheVariants.{NetLong, NetShort, GrossLong, GrossShort}
+use Rattle.journal.specs.declared.line.CoverMake.{CoverMake}
+use Rattle.journal.specs.declared.line.CoverMake.TheVariants.{Depository, Cash, Joint}
 use Rattle.journal.specs.declared.line.Layout.{Layout}
 use Rattle.journal.specs.declared.line.Layout.TheVariants as layout
 use Rattle.journal.specs.declared.line.Make.{Make}
@@ -38,12 +44,12 @@ verbs =
     ∷ (codes "ask", verb.Ask)
     ∷ (codes "limit", verb.Limit)
     ∷ (codes "close", verb.Close)
-    ∷ (codes "snapshot", verb.Later)
-    ∷ (codes "cure", verb.Later)
-    ∷ (codes "cash", verb.Later)
-    ∷ (codes "holding", verb.Later)
-    ∷ (codes "settle", verb.Later)
-    ∷ (codes "report", verb.Later)
+    ∷ (codes "snapshot", verb.Snapshot)
+    ∷ (codes "cure", verb.Cure)
+    ∷ (codes "cash", verb.Cash)
+    ∷ (codes "holding", verb.Holding)
+    ∷ (codes "settle", verb.Settle)
+    ∷ (codes "report", verb.Report)
     ∷ []
 
 -- the word behind `ask`
@@ -57,7 +63,7 @@ topics =
     ∷ (codes "charge", topic.Charge)
     ∷ (codes "notional", topic.Notional)
     ∷ (codes "reading", topic.Reading)
-    ∷ (codes "mark", topic.Later)
+    ∷ (codes "mark", topic.Mark)
     ∷ []
 
 -- the word behind `book`
@@ -75,3 +81,20 @@ kinds = (codes "future", Future) ∷ (codes "call", Call) ∷ (codes "put", Put)
 -- the first word of a source
 abbrev pub makes : List (List ℕ × Make)
 makes = (codes "published", Published) ∷ (codes "settlement", Settlement) ∷ []
+
+-- the second word behind `holding`
+abbrev pub classes : List (List ℕ × Class)
+classes = (codes "equity", Equity) ∷ (codes "other", Other) ∷ []
+
+-- the last word of `settle`
+abbrev pub covers : List (List ℕ × CoverMake)
+covers = (codes "depository", Depository) ∷ (codes "cash", Cash) ∷ (codes "joint", Joint) ∷ []
+
+-- the last word of `ask mark`
+abbrev pub marks : List (List ℕ × Mark)
+marks =
+    (codes "net-long", NetLong)
+    ∷ (codes "net-short", NetShort)
+    ∷ (codes "gross-long", GrossLong)
+    ∷ (codes "gross-short", GrossShort)
+    ∷ []

@@ -1,9 +1,12 @@
 -- What a line says, with lists where the code's line has cursors.
 use Rattle.std.specs.Prelude.{ℕ, List, ℤ, Option, option_map}
+use Rattle.cover.specs.declared.depository.DepositoryRow.{DepositoryRow}
 use Rattle.terms.specs.declared.command.Command.{Command}
+use Rattle.terms.specs.declared.mark.Mark.{Mark}
 use Rattle.tails.specs.Tails.{left_of}
 use Rattle.text.specs.Numbers.{number_of}
 use Rattle.text.specs.Worded.{unsigned_of, pair_of}
+use Rattle.journal.specs.declared.line.CoverMake.{CoverMake}
 use Rattle.journal.specs.declared.line.Declaration.{Declaration}
 use Rattle.journal.specs.declared.line.Line.{Line}
 use Rattle.journal.specs.declared.line.Line.TheVariants as line
@@ -33,14 +36,21 @@ pub data Asked : Type 0 where
   charge : (underlying entity : ℕ) → Asked
   notional : (underlying : ℕ) → Asked
   reading : (underlying : ℕ) (source : Option Sourced) → Asked
+  mark : (underlying entity : ℕ) (which : Mark) → Asked
 
--- a line, with all its deliveries
+-- a line, with all its deliveries and rows
 pub data Said : Type 0 where
   blank : Said
   declare : (declaration : Declaration) → Said
   call : (command : Command) → Said
   set_limit : (underlying free_float : ℕ) (deliveries : List ℕ) → Said
   close : (underlying : ℕ) (two closing : Sourced) → Said
+  snapshot : (underlying : ℕ) (source : Sourced) → Said
+  cure : (underlying : ℕ) (source : Sourced) → Said
+  cash : (entity underlying amount : ℕ) → Said
+  holding : (row : DepositoryRow) → Said
+  settle : (underlying : ℕ) (cover : CoverMake) → Said
+  report : (underlying rows : ℕ) → Said
   ask : (question : Asked) → Said
 
 -- the source, with the rows that its cursor gives
@@ -57,6 +67,7 @@ asked (question.Violated underlying entity) = violated underlying entity
 asked (question.Charge underlying entity) = charge underlying entity
 asked (question.Notional underlying) = notional underlying
 asked (question.Reading underlying source) = reading underlying (option_map sourced source)
+asked (question.Mark underlying entity which) = mark underlying entity which
 
 -- the line, with the values that its cursors give
 abbrev pub said : Line → Said
@@ -65,4 +76,10 @@ said (line.Declare declaration) = declare declaration
 said (line.Call command) = call command
 said (line.SetLimit underlying free_float deliveries) = set_limit underlying free_float (left_of unsigned_of deliveries)
 said (line.Close underlying two closing) = close underlying (sourced two) (sourced closing)
+said (line.Snapshot underlying source) = snapshot underlying (sourced source)
+said (line.Cure underlying source) = cure underlying (sourced source)
+said (line.Cash entity underlying amount) = cash entity underlying amount
+said (line.Holding row) = holding row
+said (line.Settle underlying cover) = settle underlying cover
+said (line.Report underlying rows) = report underlying rows
 said (line.Ask question) = ask (asked question)

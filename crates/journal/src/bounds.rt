@@ -1,7 +1,10 @@
-// The sizes of a book that a line may declare, each under one name. specs/Bounds.antt has the same names.
+// The largest sizes that a line may name, each under one name. specs/Bounds.antt has the same names.
 
-// The most entities, and the most contracts.
+// The most entities of a book, and the most contracts.
 pub const BOOK_SIDE: usize = 10_000;
 
-// The most places.
+// The most places of a book.
 pub const BOOK_PLACES: usize = 8_192;
+
+// The most rows that a report is written into.
+pub const REPORT_ROWS: usize = 512;

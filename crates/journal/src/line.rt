@@ -1,8 +1,10 @@
 // What a line of the journal says. Deliveries and rows are cursors over the line, and each of their words is a value.
+use cover::depository::DepositoryRow;
 use tails::Tail;
 use terms::command::Command;
 use terms::kind::{Contract, Underlying};
 use terms::limits::Limits;
+use terms::mark::Mark;
 
 // How a book keeps its places.
 #[derive(Clone, Copy, PartialEq, Eq, Debug)]
@@ -46,6 +48,14 @@ pub struct SourceLine<'a> {
     pub rows: Tail<'a, (usize, i64)>,
 }
 
+// What a settlement takes as cover: the depository's holdings, the cash, or both together.
+#[derive(Clone, Copy, PartialEq, Eq, Debug)]
+pub enum CoverMake {
+    Depository,
+    Cash,
+    Joint,
+}
+
 // What is asked for.
 #[derive(Clone, Copy)]
 pub enum Question<'a> {
@@ -79,6 +89,11 @@ pub enum Question<'a> {
         underlying: usize,
         source: Option<SourceLine<'a>>,
     },
+    Mark {
+        underlying: usize,
+        entity: usize,
+        mark: Mark,
+    },
 }
 
 #[derive(Clone, Copy)]
@@ -97,6 +112,31 @@ pub enum Line<'a> {
         underlying: usize,
         two: SourceLine<'a>,
         closing: SourceLine<'a>,
+    },
+    Snapshot {
+        underlying: usize,
+        source: SourceLine<'a>,
+    },
+    Cure {
+        underlying: usize,
+        source: SourceLine<'a>,
+    },
+    // An amount in paise.
+    Cash {
+        entity: usize,
+        underlying: usize,
+        amount: u64,
+    },
+    // The next row of the depository.
+    Holding(DepositoryRow),
+    Settle {
+        underlying: usize,
+        cover: CoverMake,
+    },
+    // How many rows the report is written into.
+    Report {
+        underlying: usize,
+        rows: usize,
     },
     Ask(Question<'a>),
 }

@@ -1,11 +1,13 @@
 // The words that name something. specs/Names.antt has the tables.
 ghost use Rattle.std.specs.Prelude.{◌≡◌, map};
-ghost use Rattle.journal.specs.Names.{name_in, verbs, topics, layouts, underlyings, kinds, makes};
+ghost use Rattle.journal.specs.Names.{name_in, verbs, topics, layouts, underlyings, kinds, makes, classes, covers, marks};
 
-use super::line::{Layout, Make};
+use super::line::{CoverMake, Layout, Make};
 use super::taken::Field;
+use cover::depository::Class;
 use replies::fault::Fault;
 use terms::kind::{Kind, Underlying};
+use terms::mark::Mark;
 use text::words::is;
 
 // The first word of a line.
@@ -22,8 +24,12 @@ pub(crate) enum Verb {
     Ask,
     Limit,
     Close,
-    // A word of the format that is not yet available.
-    Later,
+    Snapshot,
+    Cure,
+    Cash,
+    Holding,
+    Settle,
+    Report,
 }
 
 // What is asked for.
@@ -37,8 +43,7 @@ pub(crate) enum Topic {
     Charge,
     Notional,
     Reading,
-    // A word of the format that is not yet available.
-    Later,
+    Mark,
 }
 
 const VERBS: [(&str, Verb); 17] = [
@@ -53,12 +58,12 @@ const VERBS: [(&str, Verb); 17] = [
     ("ask", Verb::Ask),
     ("limit", Verb::Limit),
     ("close", Verb::Close),
-    ("snapshot", Verb::Later),
-    ("cure", Verb::Later),
-    ("cash", Verb::Later),
-    ("holding", Verb::Later),
-    ("settle", Verb::Later),
-    ("report", Verb::Later),
+    ("snapshot", Verb::Snapshot),
+    ("cure", Verb::Cure),
+    ("cash", Verb::Cash),
+    ("holding", Verb::Holding),
+    ("settle", Verb::Settle),
+    ("report", Verb::Report),
 ];
 
 const TOPICS: [(&str, Topic); 9] = [
@@ -70,7 +75,7 @@ const TOPICS: [(&str, Topic); 9] = [
     ("charge", Topic::Charge),
     ("notional", Topic::Notional),
     ("reading", Topic::Reading),
-    ("mark", Topic::Later),
+    ("mark", Topic::Mark),
 ];
 
 const LAYOUTS: [(&str, Layout); 2] = [("grid", Layout::Grid), ("list", Layout::List)];
@@ -89,6 +94,21 @@ const KINDS: [(&str, Kind); 3] = [
 const MAKES: [(&str, Make); 2] = [
     ("published", Make::Published),
     ("settlement", Make::Settlement),
+];
+
+const CLASSES: [(&str, Class); 2] = [("equity", Class::Equity), ("other", Class::Other)];
+
+const COVERS: [(&str, CoverMake); 3] = [
+    ("depository", CoverMake::Depository),
+    ("cash", CoverMake::Cash),
+    ("joint", CoverMake::Joint),
+];
+
+const MARKS: [(&str, Mark); 4] = [
+    ("net-long", Mark::NetLong),
+    ("net-short", Mark::NetShort),
+    ("gross-long", Mark::GrossLong),
+    ("gross-short", Mark::GrossShort),
 ];
 
 // What a table has for a word.
@@ -145,5 +165,29 @@ impl Field for Make {
 
     fn of_word(word: &[u8]) -> Result<Make, Fault> {
         named(&MAKES, word)
+    }
+}
+
+impl Field for Class {
+    ghost field = { name_in classes };
+
+    fn of_word(word: &[u8]) -> Result<Class, Fault> {
+        named(&CLASSES, word)
+    }
+}
+
+impl Field for CoverMake {
+    ghost field = { name_in covers };
+
+    fn of_word(word: &[u8]) -> Result<CoverMake, Fault> {
+        named(&COVERS, word)
+    }
+}
+
+impl Field for Mark {
+    ghost field = { name_in marks };
+
+    fn of_word(word: &[u8]) -> Result<Mark, Fault> {
+        named(&MARKS, word)
     }
 }

@@ -1,15 +1,16 @@
 // From a line's bytes to what it says. specs/Forms.antt has the table of the forms and the order of the faults.
 ghost use Rattle.std.specs.Prelude.{◌≡◌, drop};
 ghost use Rattle.std.specs.Result.{OnOk};
-ghost use Rattle.journal.specs.Forms.{full, placed, book_form, source_form, one_number, two_numbers, to_notional, to_source, ask_form, form_of, read_words, read_line};
+ghost use Rattle.journal.specs.Forms.{full, placed, book_form, source_form, one_number, two_numbers, to_notional, one_source, one_mark, ask_form, form_of, read_words, read_line};
 ghost use Rattle.journal.specs.Said.{sourced, asked, said};
 ghost use Rattle.journal.specs.Taken.{result_map};
 ghost use Rattle.text.specs.Words.{to_come};
 
-use super::bounds::{BOOK_PLACES, BOOK_SIDE};
+use super::bounds::{BOOK_PLACES, BOOK_SIDE, REPORT_ROWS};
 use super::line::{Book, Declaration, Layout, Line, Question, SourceLine};
 use super::names::*;
 use super::taken::*;
+use cover::depository::DepositoryRow;
 use replies::fault::Fault;
 use tails::skip;
 use terms::command::{Command, Trade};
@@ -195,6 +196,76 @@ fn close(mut words: Words<'_>) -> Result<Line<'_>, Fault>
     })
 }
 
+// UNDERLYING SOURCE
+fn one_source(mut words: Words<'_>) -> Result<(usize, SourceLine<'_>), Fault>
+    ensures { result_map (λ p. (p.0, sourced p.1)) result ≡ one_source (to_come words.entry) }
+{
+    let rows = at_least(words.len(), 4)?;
+    let underlying = next(&mut words)?;
+    let source = next_source(&mut words, rows)?;
+    Ok((underlying, source))
+}
+
+fn snapshot(words: Words<'_>) -> Result<Line<'_>, Fault>
+    ensures { result_map said result ≡ form_of Verb.Snapshot (to_come words.entry) }
+{
+    one_source(words).map(|(underlying, source)| Line::Snapshot { underlying, source })
+}
+
+fn cure(words: Words<'_>) -> Result<Line<'_>, Fault>
+    ensures { result_map said result ≡ form_of Verb.Cure (to_come words.entry) }
+{
+    one_source(words).map(|(underlying, source)| Line::Cure { underlying, source })
+}
+
+fn cash(mut words: Words<'_>) -> Result<Line<'_>, Fault>
+    ensures { result_map said result ≡ form_of Verb.Cash (to_come words.entry) }
+{
+    exactly(words, 3)?;
+    let entity = next(&mut words)?;
+    let underlying = next(&mut words)?;
+    let amount = next(&mut words)?;
+    Ok(Line::Cash {
+        entity,
+        underlying,
+        amount,
+    })
+}
+
+fn holding(mut words: Words<'_>) -> Result<Line<'_>, Fault>
+    ensures { result_map said result ≡ form_of Verb.Holding (to_come words.entry) }
+{
+    exactly(words, 4)?;
+    let entity = next(&mut words)?;
+    let class = next(&mut words)?;
+    let quantity = next(&mut words)?;
+    let price = next(&mut words)?;
+    Ok(Line::Holding(DepositoryRow {
+        entity,
+        class,
+        quantity,
+        price,
+    }))
+}
+
+fn settle(mut words: Words<'_>) -> Result<Line<'_>, Fault>
+    ensures { result_map said result ≡ form_of Verb.Settle (to_come words.entry) }
+{
+    exactly(words, 2)?;
+    let underlying = next(&mut words)?;
+    let cover = next(&mut words)?;
+    Ok(Line::Settle { underlying, cover })
+}
+
+fn report(mut words: Words<'_>) -> Result<Line<'_>, Fault>
+    ensures { result_map said result ≡ form_of Verb.Report (to_come words.entry) }
+{
+    exactly(words, 2)?;
+    let underlying = next(&mut words)?;
+    let rows = next_up_to(&mut words, REPORT_ROWS)?;
+    Ok(Line::Report { underlying, rows })
+}
+
 // One unsigned number and no more.
 fn one_number(mut words: Words<'_>) -> Result<usize, Fault>
     ensures { result ≡ one_number (to_come words.entry) }
@@ -222,27 +293,32 @@ fn to_notional(mut words: Words<'_>) -> Result<Question<'_>, Fault>
     })
 }
 
-// UNDERLYING SOURCE
-fn to_source(mut words: Words<'_>) -> Result<Question<'_>, Fault>
-    ensures { result_map asked result ≡ to_source (to_come words.entry) }
-{
-    let rows = at_least(words.len(), 4)?;
-    let underlying = next(&mut words)?;
-    let source = next_source(&mut words, rows)?;
-    Ok(Question::Reading {
-        underlying,
-        source: Some(source),
-    })
-}
-
 fn reading(words: Words<'_>) -> Result<Question<'_>, Fault>
     ensures { result_map asked result ≡ ask_form Topic.Reading (to_come words.entry) }
 {
     if is_next(skip(words, 1), "notional") {
         to_notional(words)
     } else {
-        to_source(words)
+        one_source(words).map(|(underlying, source)| Question::Reading {
+            underlying,
+            source: Some(source),
+        })
     }
+}
+
+// UNDERLYING ENTITY MARK
+fn one_mark(mut words: Words<'_>) -> Result<Question<'_>, Fault>
+    ensures { result_map asked result ≡ one_mark (to_come words.entry) }
+{
+    exactly(words, 3)?;
+    let underlying = next(&mut words)?;
+    let entity = next(&mut words)?;
+    let mark = next(&mut words)?;
+    Ok(Question::Mark {
+        underlying,
+        entity,
+        mark,
+    })
 }
 
 fn question(topic: Topic, words: Words<'_>) -> Result<Question<'_>, Fault>
@@ -269,7 +345,7 @@ fn question(topic: Topic, words: Words<'_>) -> Result<Question<'_>, Fault>
         }),
         Topic::Notional => one_number(words).map(|underlying| Question::Notional { underlying }),
         Topic::Reading => reading(words),
-        Topic::Later => Err(Fault::NotYet),
+        Topic::Mark => one_mark(words),
     }
 }
 
@@ -296,7 +372,12 @@ fn form(verb: Verb, words: Words<'_>) -> Result<Line<'_>, Fault>
         Verb::Ask => ask(words),
         Verb::Limit => set_limit(words),
         Verb::Close => close(words),
-        Verb::Later => Err(Fault::NotYet),
+        Verb::Snapshot => snapshot(words),
+        Verb::Cure => cure(words),
+        Verb::Cash => cash(words),
+        Verb::Holding => holding(words),
+        Verb::Settle => settle(words),
+        Verb::Report => report(words),
     }
 }
 

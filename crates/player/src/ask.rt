@@ -5,6 +5,7 @@ use book::position::Book;
 use delta::notional::Notional;
 use delta::source::Delta;
 use journal::line::{Question, SourceLine};
+use replies::fault::Fault;
 use std::io::Write;
 use terms::bounds::MOST_ENTITIES;
 use terms::refusal::Refusal;
@@ -65,6 +66,8 @@ impl<'n, 'b, 't, W: Write + Drop, B: Book> Session<'n, 'b, 't, W, B> {
                 self.notices.told(monitor.notional_interest(underlying))
             }
             Question::Reading { underlying, source } => self.ask_reading_at(underlying, source),
+            // This is read, and no session serves it.
+            Question::Mark { .. } => self.notices.malformed(Fault::UnknownWord),
         }
     }
 }

@@ -11,9 +11,18 @@ fn declared(setup: &mut Setup, line: &[u8]) -> Option<Result<(), Fault>> {
     match read(line) {
         Ok(Line::Blank) => None,
         Ok(Line::Declare(declaration)) => Some(setup.declare(declaration)),
-        Ok(Line::Call(_) | Line::SetLimit { .. } | Line::Close { .. } | Line::Ask(_)) => Some(
-            setup.ready(),
-        ),
+        Ok(
+            Line::Call(_)
+            | Line::SetLimit { .. }
+            | Line::Close { .. }
+            | Line::Snapshot { .. }
+            | Line::Cure { .. }
+            | Line::Cash { .. }
+            | Line::Holding(_)
+            | Line::Settle { .. }
+            | Line::Report { .. }
+            | Line::Ask(_),
+        ) => Some(setup.ready()),
         Err(fault) => Some(Err(fault)),
     }
 }

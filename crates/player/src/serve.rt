@@ -97,6 +97,15 @@ impl<'n, 'b, 't, W: Write + Drop, B: Book> Session<'n, 'b, 't, W, B> {
                 },
             ) => self.close(underlying, two, closing),
             Ok(Line::Ask(question)) => self.ask(question),
+            // These are read, and no session serves them.
+            Ok(
+                Line::Snapshot { .. }
+                | Line::Cure { .. }
+                | Line::Cash { .. }
+                | Line::Holding(_)
+                | Line::Settle { .. }
+                | Line::Report { .. },
+            ) => self.notices.malformed(Fault::UnknownWord),
             Err(fault) => self.notices.malformed(fault),
         }
     }

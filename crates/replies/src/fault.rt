@@ -15,9 +15,7 @@ pub enum Fault {
     WordCount,
     // A word that must be a number is none.
     NotNumber,
-    // A form that is known and not yet available.
-    NotYet,
-    // A number that no book can be declared with.
+    // A size that no book can be declared with, or no report be written into.
     OutOfRange,
     // There is no room for another declaration of this kind.
     TooMany,
@@ -41,7 +39,6 @@ impl Fault {
             Fault::UnknownWord => "unknown word",
             Fault::WordCount => "wrong number of words",
             Fault::NotNumber => "not a number of 64 signed bits",
-            Fault::NotYet => "not yet available",
             Fault::OutOfRange => "number out of range",
             Fault::TooMany => "too many declared",
             Fault::AfterOpen => "opening line after open",
