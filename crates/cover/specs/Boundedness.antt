@@ -7,6 +7,9 @@ use Rattle.terms.specs.Bounds.{amount_bound}
 use Rattle.terms.specs.declared.mark.Side.TheVariants.{Long, Short}
 use Rattle.book.specs.Tables.{Table, value_of}
 use Rattle.cover.specs.declared.depository.DepositoryRow.{DepositoryRow}
+use Rattle.either.specs.Either.{either}
+use Rattle.either.specs.declared.Either.{Either}
+use Rattle.either.specs.declared.Either.TheVariants.{Left, Right}
 use Rattle.cover.specs.Covers.{Amounts, Bounded, cut, joint}
 use Rattle.cover.specs.Depositories.{deposited, worth_to}
 use Rattle.cover.specs.Reports.{is_watched, key_of, paid, Small}
@@ -26,3 +29,7 @@ paid_bounded t h entity underlying Long =
     cond_both (is_watched entity underlying) (value_of t (key_of entity underlying)) None (λ o. unwrap_or o 0 ≤ amount_bound)
     (λ _. h (key_of entity underlying)) (λ _. omega arith)
 paid_bounded t h entity underlying Short = omega arith
+
+pub either_bounded : {A B : Type 0} (a : A → Amounts) (b : B → Amounts) → ((x : A) → Bounded (a x)) → ((y : B) → Bounded (b y)) → (m : Either A B) → Bounded (either a b m)
+either_bounded a b p q (Left x) = p x
+either_bounded a b p q (Right y) = q y

@@ -4,4 +4,5 @@
 pub mod cash;
 pub mod depository;
 pub mod joint;
+pub mod mixing;
 pub mod source;
