@@ -2,14 +2,15 @@
 use Rattle.std.specs.Prelude.{◌≡◌, Bool, cond, List, ◌++◌, map, length, drop, nat_le, codes, ℕ}
 use Rattle.terms.specs.declared.command.Command.{Command}
 use Rattle.terms.specs.declared.command.Command.TheVariants.{Post, Entry, Confirm}
+use Rattle.cover.specs.Covers.{Amounts}
 use Rattle.delta.specs.Sources.{Source}
 use Rattle.model.specs.Causes.{Answer}
 use Rattle.model.specs.State.{State}
-use Rattle.model.specs.Calls.{Call, post, entry, confirm, set_limit, close}
+use Rattle.model.specs.Calls.{Call, post, entry, confirm, snapshot, cure, settle, set_limit, close}
 use Rattle.model.specs.Runs.{Run, outcome_from, answers_from, outcome, followed_by}
 use Rattle.model.specs.Handbook.{Handbook}
 use Rattle.handbook.specs.declared.request.Request.{Request}
-use Rattle.handbook.specs.declared.request.Request.TheVariants.{Posting, SetLimit, Close}
+use Rattle.handbook.specs.declared.request.Request.TheVariants.{Posting, Snapshot, Cure, Settle, SetLimit, Close}
 
 -- the call that a command stands for
 abbrev pub posting : Command → Call
@@ -17,14 +18,17 @@ posting (Post e c x) = post e c x
 posting (Entry k d) = entry k d
 posting (Confirm k) = confirm k
 
--- the call that a request stands for, by what its sources mean
-abbrev pub meant : {D : Type 0} → (D → Source) → Request D → Call
-meant priced (Posting k) = posting k
-meant priced (SetLimit u f ds) = set_limit u f ds.now
-meant priced (Close u two d) = close u (priced two) (priced d)
+-- the call that a request stands for, by what its sources and its cover mean
+abbrev pub meant : {D C : Type 0} → (D → Source) → (C → Amounts) → Request D C → Call
+meant priced amount (Posting k) = posting k
+meant priced amount (Snapshot u d) = snapshot u (priced d)
+meant priced amount (Cure u d) = cure u (priced d)
+meant priced amount (Settle u c) = settle u (amount c)
+meant priced amount (SetLimit u f ds) = set_limit u f ds.now
+meant priced amount (Close u two d) = close u (priced two) (priced d)
 
-abbrev pub calls : {D : Type 0} → (D → Source) → List (Request D) → List Call
-calls priced rs = map (meant priced) rs
+abbrev pub calls : {D C : Type 0} → (D → Source) → (C → Amounts) → List (Request D C) → List Call
+calls priced amount rs = map (meant priced amount) rs
 
 -- the calls cs were replayed on the monitor s with these rows, which left s' and rows'; did tells whether they were made
 pub record Replayed (s : State) (cs : List Call) (rows : List Answer) (did : Bool) (s' : State) (rows' : List Answer) : Type 0 where

@@ -3,6 +3,6 @@
 
 pub mod bounds;
 pub mod line;
-mod names;
+pub mod names;
 pub mod reader;
 mod taken;

@@ -1,5 +1,5 @@
 // The words that name something. specs/Names.antt has the tables.
-ghost use Rattle.std.specs.Prelude.{◌≡◌, map};
+ghost use Rattle.std.specs.Prelude.{◌≡◌, map, Ok};
 ghost use Rattle.journal.specs.Names.{name_in, verbs, topics, layouts, underlyings, kinds, makes, classes, covers, marks};
 
 use super::line::{CoverMake, Layout, Make};
@@ -117,6 +117,18 @@ fn named<T: Copy>(table: &[(&str, T)], word: &[u8]) -> Result<T, Fault>
 {
     let row = table.iter().find(|row| is(word, row.0));
     row.map(|row| row.1).ok_or(Fault::UnknownWord)
+}
+
+// The word that is read as a mark.
+pub fn mark_word(mark: Mark) -> &'static str
+    ensures { name_in marks result.now ≡ Ok mark }
+{
+    match mark {
+        Mark::NetLong => "net-long",
+        Mark::NetShort => "net-short",
+        Mark::GrossLong => "gross-long",
+        Mark::GrossShort => "gross-short",
+    }
 }
 
 // The impls differ in their tables alone; a table as a constant of the trait would be a second name for its ghost.

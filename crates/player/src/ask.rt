@@ -5,12 +5,11 @@ use book::position::Book;
 use delta::notional::Notional;
 use delta::source::Delta;
 use journal::line::{Question, SourceLine};
-use replies::fault::Fault;
 use std::io::Write;
 use terms::bounds::MOST_ENTITIES;
 use terms::refusal::Refusal;
 
-impl<'n, 'b, 't, W: Write + Drop, B: Book> Session<'n, 'b, 't, W, B> {
+impl<'n, 'b, 't, 'c, W: Write + Drop, B: Book> Session<'n, 'b, 't, 'c, W, B> {
     // Prints market interest and the reading of each entity that holds something, or DELTA where one is missing.
     fn ask_reading<D: Delta>(&mut self, underlying: usize, source: &D) -> anyhow::Result<()> {
         if let Some((contract, entity)) = self.monitor.missing(underlying, source) {
@@ -66,8 +65,11 @@ impl<'n, 'b, 't, W: Write + Drop, B: Book> Session<'n, 'b, 't, W, B> {
                 self.notices.told(monitor.notional_interest(underlying))
             }
             Question::Reading { underlying, source } => self.ask_reading_at(underlying, source),
-            // This is read, and no session serves it.
-            Question::Mark { .. } => self.notices.malformed(Fault::UnknownWord),
+            Question::Mark {
+                underlying,
+                entity,
+                mark,
+            } => self.notices.row(monitor.mark(underlying, entity, mark)),
         }
     }
 }

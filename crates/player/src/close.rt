@@ -1,5 +1,5 @@
 // The close of a stock, with all that it did.
-use crate::serve::Session;
+use crate::serve::{Session, call};
 use crate::sources::{Places, Source};
 use book::position::Book;
 use handbook::request::Request;
@@ -17,7 +17,7 @@ fn turn(before: bool, after: bool) -> &'static str {
     }
 }
 
-impl<'n, 'b, 't, W: Write + Drop, B: Book> Session<'n, 'b, 't, W, B> {
+impl<'n, 'b, 't, 'c, W: Write + Drop, B: Book> Session<'n, 'b, 't, 'c, W, B> {
     // Prints who is charged, and what became of the ban.
     fn tell_close(
         &mut self,
@@ -45,11 +45,12 @@ impl<'n, 'b, 't, W: Write + Drop, B: Book> Session<'n, 'b, 't, W, B> {
         closing: Source<'_, '_>,
     ) -> anyhow::Result<()> {
         let banned = self.monitor.is_banned(underlying);
-        let answer = self.call(Request::Close {
+        let request = Request::Close {
             underlying,
             two,
             closing,
-        })?;
+        };
+        let answer = call(self.notices, &mut self.monitor, request)?;
         if answer.is_ok() {
             self.tell_close(underlying, banned, &closing)?;
         }

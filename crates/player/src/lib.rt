@@ -3,7 +3,9 @@
 
 mod ask;
 mod close;
+mod covers;
 mod declare;
+mod index;
 mod lines;
 mod notices;
 pub mod play;

@@ -1,11 +1,14 @@
 // What is printed: a notice for each line that has one, and the counts at the end.
 use crate::tally::Tally;
 use book::position::Shape;
+use index::mark::MarkRow;
+use journal::names::mark_word;
 use replies::fault::Fault;
 use replies::told::Told;
 use std::alloc::Global;
 use std::fmt::Display;
 use std::io::{BufWriter, Write};
+use terms::mark::Mark;
 use terms::refusal::Refusal;
 
 #[derive(Drop)]
@@ -78,6 +81,35 @@ impl<W: Write + Drop> Notices<W> {
         let n = self.tally.lines;
         let told = Told(Err(refusal));
         writeln!(self.out, "{n} {told}")?;
+        Ok(())
+    }
+
+    // A line that is taken and answers nothing.
+    pub(crate) fn taken(&mut self) -> anyhow::Result<()> {
+        let n = self.tally.lines;
+        writeln!(self.out, "{n} ok")?;
+        Ok(())
+    }
+
+    // What is kept of a mark.
+    pub(crate) fn row(&mut self, row: MarkRow) -> anyhow::Result<()> {
+        let n = self.tally.lines;
+        let sighted = u8::from(row.sighted);
+        let MarkRow { count, largest, .. } = row;
+        writeln!(self.out, "{n} ok {sighted} {count} {largest}")?;
+        Ok(())
+    }
+
+    // What became of an entity's mark, and its value.
+    pub(crate) fn mark(
+        &mut self,
+        what: &str,
+        entity: usize,
+        mark: Mark,
+        value: u128,
+    ) -> anyhow::Result<()> {
+        let mark = mark_word(mark);
+        writeln!(self.out, "  {what} {entity} {mark} {value}")?;
         Ok(())
     }
 

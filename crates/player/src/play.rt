@@ -1,12 +1,14 @@
 // A whole journal.
+use crate::covers::{CASH_PLACES, Covers, Holdings};
 use crate::declare::declare;
 use crate::lines::Lines;
 use crate::notices::Notices;
 use crate::serve::Session;
+use crate::sources::blank;
 use book::grid::Grid;
 use book::list::List;
 use book::position::Book;
-use book::row::Row;
+use cover::cash::Cash;
 use journal::line::Layout;
 use monitor::state::Monitor;
 use opening::opened::Opening;
@@ -19,6 +21,7 @@ use terms::limits::Limits;
 fn declare_all<R: Read + Drop, W: Write + Drop>(
     lines: &mut Lines<R>,
     notices: &mut Notices<W>,
+    holdings: &mut Holdings,
 ) -> anyhow::Result<Setup> {
     let mut setup = Setup::new();
     // A count: a loop has to end, and no clause says that an input does.
@@ -27,7 +30,7 @@ fn declare_all<R: Read + Drop, W: Write + Drop>(
             break;
         };
         notices.next_line();
-        declare(notices, &mut setup, line)?;
+        declare(notices, &mut setup, holdings, line)?;
         if setup.is_open() {
             break;
         }
@@ -41,12 +44,18 @@ fn serve_all<R: Read + Drop, W: Write + Drop, B: Book>(
     lines: &mut Lines<R>,
     notices: &mut Notices<W>,
     setup: &Setup,
+    holdings: Holdings,
     limits: Limits,
     book: &mut B,
 ) -> anyhow::Result<()> {
     let shape = book.shape();
     let monitor = Monitor::open(book, setup.contracts(), setup.underlyings(), limits);
-    let mut session = Session::new(heap, notices, monitor);
+    let mut places = vec![in heap; blank(0u64); CASH_PLACES]?;
+    let covers = Covers {
+        holdings,
+        cash: Cash::new(&mut places),
+    };
+    let mut session = Session::new(heap, notices, monitor, covers);
     session.tell_opening(shape)?;
     // A count, as above.
     for _ in 0..u64::MAX {
@@ -69,6 +78,7 @@ fn serve_over<R: Read + Drop, W: Write + Drop>(
     lines: &mut Lines<R>,
     notices: &mut Notices<W>,
     setup: &Setup,
+    holdings: Holdings,
     opening: Opening,
 ) -> anyhow::Result<()> {
     let Opening { book, limits } = opening;
@@ -76,16 +86,12 @@ fn serve_over<R: Read + Drop, W: Write + Drop>(
         Layout::Grid => {
             let mut cells = vec![in heap; 0i64; book.places]?;
             let mut grid = Grid::new(&mut cells, book.entities, book.contracts);
-            serve_all(heap, lines, notices, setup, limits, &mut grid)
+            serve_all(heap, lines, notices, setup, holdings, limits, &mut grid)
         }
         Layout::List => {
-            let blank = Row {
-                key: 0,
-                value: 0i64,
-            };
-            let mut rows = vec![in heap; blank; book.places]?;
+            let mut rows = vec![in heap; blank(0i64); book.places]?;
             let mut list = List::new(&mut rows, narrow(book.entities), narrow(book.contracts));
-            serve_all(heap, lines, notices, setup, limits, &mut list)
+            serve_all(heap, lines, notices, setup, holdings, limits, &mut list)
         }
     }
 }
@@ -94,9 +100,17 @@ fn serve_over<R: Read + Drop, W: Write + Drop>(
 pub fn play<R: Read + Drop>(rt: &HostRuntime, input: R) -> anyhow::Result<()> {
     let mut lines = Lines::new(rt.alloc(), input)?;
     let mut notices = Notices::new(rt.alloc(), rt.stdout())?;
-    let setup = declare_all(&mut lines, &mut notices)?;
+    let mut holdings = Holdings::new(rt.alloc());
+    let setup = declare_all(&mut lines, &mut notices, &mut holdings)?;
     if let Some(opening) = setup.opening() {
-        serve_over(rt.alloc(), &mut lines, &mut notices, &setup, opening)?;
+        serve_over(
+            rt.alloc(),
+            &mut lines,
+            &mut notices,
+            &setup,
+            holdings,
+            opening,
+        )?;
     }
     notices.end()
 }

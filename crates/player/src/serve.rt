@@ -1,4 +1,5 @@
 // The lines once the monitor was opened.
+use crate::covers::{AnyCover, Covers, hold};
 use crate::notices::Notices;
 use crate::sources::Source;
 use book::position::{Book, Shape};
@@ -13,24 +14,40 @@ use std::io::Write;
 use tails::Tail;
 use terms::refusal::Refusal;
 
-// A monitor that calls and questions are put to, and where their answers are printed.
+// Makes one call, and prints and tells its answer. One type of source and one of cover serve all calls.
+pub(crate) fn call<W: Write + Drop, B: Book>(
+    notices: &mut Notices<W>,
+    monitor: &mut Monitor<B>,
+    request: Request<'_, Source<'_, '_>, AnyCover<'_, '_>>,
+) -> anyhow::Result<Result<i64, Refusal>> {
+    let mut answers = [Err(Refusal::Closed)];
+    replay(monitor, &[request], &mut answers).unwrap();
+    let answer = answers[0];
+    notices.called(answer)?;
+    Ok(answer)
+}
+
+// A monitor that calls and questions are put to, the covers that its settlements may take, and where the answers are printed.
 #[derive(Drop)]
-pub(crate) struct Session<'n, 'b, 't, W: Write + Drop, B> {
+pub(crate) struct Session<'n, 'b, 't, 'c, W: Write + Drop, B> {
     pub(crate) heap: Global,
     pub(crate) notices: &'n mut Notices<W>,
     pub(crate) monitor: Monitor<'b, 't, B>,
+    pub(crate) covers: Covers<'c>,
 }
 
-impl<'n, 'b, 't, W: Write + Drop, B: Book> Session<'n, 'b, 't, W, B> {
+impl<'n, 'b, 't, 'c, W: Write + Drop, B: Book> Session<'n, 'b, 't, 'c, W, B> {
     pub(crate) fn new(
         heap: Global,
         notices: &'n mut Notices<W>,
         monitor: Monitor<'b, 't, B>,
-    ) -> Session<'n, 'b, 't, W, B> {
+        covers: Covers<'c>,
+    ) -> Session<'n, 'b, 't, 'c, W, B> {
         Session {
             heap,
             notices,
             monitor,
+            covers,
         }
     }
 
@@ -43,21 +60,12 @@ impl<'n, 'b, 't, W: Write + Drop, B: Book> Session<'n, 'b, 't, W, B> {
         }
     }
 
-    // Makes one call, and prints and tells its answer. One type of source serves all calls: that of the closes.
-    pub(crate) fn call(
-        &mut self,
-        request: Request<'_, Source<'_, '_>>,
-    ) -> anyhow::Result<Result<i64, Refusal>> {
-        let mut answers = [Err(Refusal::Closed)];
-        replay(&mut self.monitor, &[request], &mut answers).unwrap();
-        let answer = answers[0];
-        self.notices.called(answer)?;
-        Ok(answer)
-    }
-
     // Makes one call that prints its answer alone.
-    fn call_only(&mut self, request: Request<'_, Source<'_, '_>>) -> anyhow::Result<()> {
-        let _ = self.call(request)?;
+    fn call_only(
+        &mut self,
+        request: Request<'_, Source<'_, '_>, AnyCover<'_, '_>>,
+    ) -> anyhow::Result<()> {
+        let _ = call(self.notices, &mut self.monitor, request)?;
         Ok(())
     }
 
@@ -96,16 +104,19 @@ impl<'n, 'b, 't, W: Write + Drop, B: Book> Session<'n, 'b, 't, W, B> {
                     closing,
                 },
             ) => self.close(underlying, two, closing),
-            Ok(Line::Ask(question)) => self.ask(question),
-            // These are read, and no session serves them.
+            Ok(Line::Snapshot { underlying, source }) => self.watch(false, underlying, source),
+            Ok(Line::Cure { underlying, source }) => self.watch(true, underlying, source),
             Ok(
-                Line::Snapshot { .. }
-                | Line::Cure { .. }
-                | Line::Cash { .. }
-                | Line::Holding(_)
-                | Line::Settle { .. }
-                | Line::Report { .. },
-            ) => self.notices.malformed(Fault::UnknownWord),
+                Line::Cash {
+                    entity,
+                    underlying,
+                    amount,
+                },
+            ) => self.cash(entity, underlying, amount),
+            Ok(Line::Holding(row)) => hold(self.notices, &mut self.covers.holdings, row),
+            Ok(Line::Settle { underlying, cover }) => self.settle(underlying, cover),
+            Ok(Line::Report { underlying, rows }) => self.report(underlying, rows),
+            Ok(Line::Ask(question)) => self.ask(question),
             Err(fault) => self.notices.malformed(fault),
         }
     }

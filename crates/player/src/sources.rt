@@ -22,6 +22,11 @@ fn strike_of(value: i64) -> u64 {
     u64::try_from(value).unwrap_or(u64::MAX)
 }
 
+// A place that holds nothing yet.
+pub(crate) fn blank<V>(value: V) -> Row<V> {
+    Row { key: 0, value }
+}
+
 // A register of rows; a contract that is named twice keeps the later row, and one that no monitor can have is passed over.
 fn filled<'a, V: Copy, F: Fn(i64) -> V>(
     places: &'a mut [Row<V>],
@@ -51,8 +56,8 @@ impl Places {
     // Places for the rows of the line's source.
     pub(crate) fn new(line: SourceLine<'_>) -> Places {
         match line.make {
-            Make::Published => Places::Deltas([Row { key: 0, value: 0 }; MOST_CONTRACTS]),
-            Make::Settlement => Places::Strikes([Row { key: 0, value: 0 }; MOST_CONTRACTS]),
+            Make::Published => Places::Deltas([blank(0); MOST_CONTRACTS]),
+            Make::Settlement => Places::Strikes([blank(0); MOST_CONTRACTS]),
         }
     }
 

@@ -15,7 +15,7 @@ use Rattle.handbook.proofs.replay.replay.Goals as goal
 pub returns-then-requests-answers : goal.returns-then-requests-answers
 returns-then-requests-answers g c =
     let rs = c.args.requests.now in
-    let f = meant (source_of g.D.Delta.answer g.D.PricedDelta.at g.D.PricedDelta.worth) in
+    let f = meant (source_of g.D.Delta.answer g.D.PricedDelta.at g.D.PricedDelta.worth) g.C.Cover.amount in
     let n = length-map rs f in
     record {
       run = record {
@@ -32,7 +32,7 @@ pub loop-place-preserved : goal.loop-place-preserved
 loop-place-preserved g c =
     let s = state_of g.B.Holds.held c.args.monitor.now in
     let rs = c.args.requests.now in
-    let f = meant (source_of g.D.Delta.answer g.D.PricedDelta.at g.D.PricedDelta.worth) in
+    let f = meant (source_of g.D.Delta.answer g.D.PricedDelta.at g.D.PricedDelta.worth) g.C.Cover.amount in
     let i = c.loop-place.place in
     let t = state_of g.B.Holds.held c.loop-place.monitor in
     let u = state_of g.B.Holds.held c.apply.new.monitor in
@@ -50,7 +50,7 @@ pub returns : goal.returns
 returns g c =
     let s = state_of g.B.Holds.held c.args.monitor.now in
     let rs = c.args.requests.now in
-    let f = meant (source_of g.D.Delta.answer g.D.PricedDelta.at g.D.PricedDelta.worth) in
+    let f = meant (source_of g.D.Delta.answer g.D.PricedDelta.at g.D.PricedDelta.worth) g.C.Cover.amount in
     let all = all_calls f rs c.loop-place.place c.loop-place-test.false in
     let n = length-map rs f in
     let ends : c.loop-place.place ≡ length (map f rs) = omega (arith, n) in

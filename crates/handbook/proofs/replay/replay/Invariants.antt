@@ -7,6 +7,6 @@ use Rattle.handbook.proofs.replay.replay.Given as goal
 
 abbrev pub invariant-loop-place : goal.invariant-loop-place
 invariant-loop-place g l =
-    (state_of g.B.Holds.held l.monitor ≡ outcome_from (state_of g.B.Holds.held l.initial.monitor) (calls (source_of g.D.Delta.answer g.D.PricedDelta.at g.D.PricedDelta.worth) (take l.place l.requests)))
-    × (l.answers ≡ answers_from (state_of g.B.Holds.held l.initial.monitor) (calls (source_of g.D.Delta.answer g.D.PricedDelta.at g.D.PricedDelta.worth) (take l.place l.requests)) ++ drop l.place l.initial.answers)
+    (state_of g.B.Holds.held l.monitor ≡ outcome_from (state_of g.B.Holds.held l.initial.monitor) (calls (source_of g.D.Delta.answer g.D.PricedDelta.at g.D.PricedDelta.worth) g.C.Cover.amount (take l.place l.requests)))
+    × (l.answers ≡ answers_from (state_of g.B.Holds.held l.initial.monitor) (calls (source_of g.D.Delta.answer g.D.PricedDelta.at g.D.PricedDelta.worth) g.C.Cover.amount (take l.place l.requests)) ++ drop l.place l.initial.answers)
     × (l.monitor.book.ghost_name ≡ l.initial.monitor.book.ghost_name)
