@@ -1,5 +1,5 @@
 -- A call's step, by the way that its causes go. What proves a monitor's code equal to the model cites these.
-use Rattle.std.proofs.Common.{◌≡◌, ℕ, Bool, true, false, cond, not, List, [], ◌∷◌, ℤ, Some, None, Ok, Err, Option, IsErrAnd, sym, refl, ap, ◌∙◌, ap₂, arith}
+use Rattle.std.proofs.Common.{◌≡◌, ℕ, Bool, true, false, cond, not, List, [], ◌∷◌, ℤ, Some, None, Ok, Err, Option, Result, IsErrAnd, sym, refl, ap, ◌∙◌, ap₂, arith}
 use Rattle.std.proofs.lemmas.Result.{err_from_is_err_and}
 use Rattle.terms.specs.declared.command.Trade.{Trade}
 use Rattle.terms.specs.declared.refusal.Refusal.{Refusal}
@@ -27,6 +27,10 @@ unless_ok ((false, w) ∷ t) v e = unless_ok t v e
 -- a check that declined, where its answer came through a `?`
 pub exit_unless : (t : List (Bool × Refusal)) (v r : Verdict) (why : Refusal) → IsErrAnd r (λ y. y ≡ why) → unless t (Ok tt) ≡ Err why → r ≡ unless t v
 exit_unless t v r why q h = let p = err_from_is_err_and r q in p.1 ∙ ap Err p.2 ∙ sym (unless_err t v why h)
+
+-- the same of a check that answers something
+pub exit_verdict : {A : Type 0} (t : List (Bool × Refusal)) (v : Verdict) (r : Result A Refusal) (why : Refusal) → IsErrAnd r (λ y. y ≡ why) → unless t (Ok tt) ≡ Err why → verdict_of r ≡ unless t v
+exit_verdict t v r why q h = let p = err_from_is_err_and r q in ap verdict_of p.1 ∙ ap Err p.2 ∙ sym (unless_err t v why h)
 
 -- ---- a step by its verdict
 

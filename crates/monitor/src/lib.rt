@@ -2,6 +2,7 @@
 #![tactic(auto)]
 
 pub mod calls;
+pub mod causes;
 pub mod close;
 pub mod custody;
 pub mod fixed;

@@ -1,5 +1,5 @@
 -- The first number that passes a test, and the first missing delta.
-use Rattle.std.proofs.Common.{◌≡◌, ℕ, zero, suc, ◌<◌, Bool, true, false, cond, is_some, Some, None, Option, sym, refl, ap, ◌∙◌, subst, inl, inr, arith}
+use Rattle.std.proofs.Common.{◌≡◌, ℕ, zero, suc, ◌<◌, Bool, true, false, cond, is_some, Some, None, Option, sym, refl, ap, ap₂, ◌∙◌, subst, inl, inr, arith}
 use Rattle.std.proofs.lemmas.Bool.{cases_lt, cond-true, both_ways, false≢true}
 use Rattle.terms.specs.Bounds.{most_contracts}
 use Rattle.reading.specs.Sums.{or_else, first_below}
@@ -13,6 +13,12 @@ first_at p i (suc n) l h t =
       | inl m ↦ rw (first_at p i n m h t) refl
       | inr m ↦ let s : n ≡ i = omega arith in rw (s, h, t) refl
     ]
+
+-- only the numbers below n are tested
+pub same_below : (n : ℕ) (p q : ℕ → Bool) → ((i : ℕ) → i < n → p i ≡ q i) → first_below n p ≡ first_below n q
+same_below zero p q h = refl
+same_below (suc n) p q h =
+    ap₂ or_else (same_below n p q (λ i l. h i (omega arith))) (ap (λ (b : Bool). cond b (Some n) None) (h n (omega arith)))
 
 -- where a scan came to: no number below n passes, or k does and none below it
 abbrev Came : (ℕ → Bool) → ℕ → Option ℕ → Type 0
