@@ -6,30 +6,30 @@ use Rattle.terms.specs.declared.refusal.Refusal.TheVariants.{Full}
 use Rattle.index.specs.declared.mark.MarkRow.{MarkRow}
 use Rattle.index.specs.declared.report.Breach.{Breach}
 
--- one of the first n entities keeps this breach, with its value
+-- a breach is kept by one of the first n entities, with its value
 pub record IsKept (n : ℕ) (rows : ℕ → Mark → MarkRow) (b : Breach) : Type 0 where
   pub within : b.entity < n
   pub value : (rows b.entity b.mark).kept ≡ Some b.largest
 
--- two breaches differ in their entity or in their mark
+-- two breaches are not of one mark of one entity
 abbrev pub AreApart : Breach → Breach → Type 0
 AreApart b c = b.entity ≡ c.entity → b.mark ≡ c.mark → ⊥
 
--- a list names exactly the breaches that are so, each once, in any order
-pub record Names (Is : Breach → Type 0) (list : List Breach) : Type 0 where
-  -- what it names is so
-  pub named : All Is list
-  -- what is so it names
-  pub whole : (b : Breach) → Is b → Contains list b
-  -- nothing is named twice
+-- a list names exactly the breaches with a property, each once, in any order
+pub record Names (P : Breach → Type 0) (list : List Breach) : Type 0 where
+  -- what it names has the property
+  pub named : All P list
+  -- what has the property it names
+  pub whole : (b : Breach) → P b → Contains list b
+  -- it names no mark of an entity twice
   pub once : AllPairs AreApart list
 
--- a report of the kept breaches of the first n entities answers this, and makes new of the rows old
+-- what a report of the kept breaches of the first n entities answers, and what it makes of the rows old
 pub record Written (n : ℕ) (rows : ℕ → Mark → MarkRow) (old : List Breach) (answer : Result ℕ Refusal) (new : List Breach) : Type 0 where
   -- the order of the breaches is left free
   pub order : List Breach
   pub names : Names (IsKept n rows) order
-  -- it answers how many they are, or FULL where the rows are fewer
+  -- it answers how many they are, FULL where the rows are fewer
   pub told : answer ≡ cond (nat_le (length order) (length old)) (Ok (length order)) (Err Full)
   -- the first rows are these and later ones stay; at FULL all stay
   pub leaves : new ≡ cond (nat_le (length order) (length old)) (order ++ drop (length order) old) old

@@ -1,4 +1,4 @@
--- The order that a report takes: by entity, and for each by its marks.
+-- The order in which the code goes, which the contract of a report leaves free: by entity, and for each by its marks.
 use Rattle.std.specs.Prelude.{ℕ, zero, suc, List, [], ◌∷◌, ◌++◌, slice_index_or, Option, Some, None}
 use Rattle.terms.specs.Marks.{all_marks}
 use Rattle.terms.specs.declared.mark.Mark.{Mark}
