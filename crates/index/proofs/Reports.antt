@@ -42,7 +42,7 @@ module _ (list old : List Breach) (e : ℕ) (m : Mark) (o : Option ℕ) (rows ro
         told_is = n ∙ ap (λ k. k + 1) t.told_is ∙ sym (length_push list b);
       })
 
--- ---- how many there are
+-- ---- how many they are, at most
 kept_small : (e : ℕ) (m : Mark) (o : Option ℕ) (list : List Breach) → length (with_kept e m o list) ≤ length list + 1
 kept_small e m None list = omega arith
 kept_small e m (Some v) list = omega (arith, length_push list (record { entity = e; mark = m; largest = v }))

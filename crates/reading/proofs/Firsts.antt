@@ -1,5 +1,5 @@
 -- The first number that passes a test, and the first missing delta.
-use Rattle.std.proofs.Common.{◌≡◌, ℕ, zero, suc, ◌<◌, Bool, true, false, cond, is_some, Some, None, Option, sym, refl, ap, ◌∙◌, subst, inl, inr, ◌≤◌, List, length, take, get_or, arith}
+use Rattle.std.proofs.Common.{◌≡◌, ℕ, zero, suc, ◌<◌, ◌≤◌, Bool, true, false, cond, List, length, get_or, take, is_some, Some, None, Option, sym, refl, ap, ◌∙◌, subst, inl, inr, arith}
 use Rattle.std.specs.List.{position}
 use Rattle.std.proofs.lemmas.List.{length-take-le, get_or-take}
 use Rattle.std.proofs.lemmas.List.Sums.{position_or_len_is}
@@ -9,7 +9,7 @@ use Rattle.reading.specs.Sums.{or_else, first_below}
 use Rattle.reading.specs.Missing.{first_needing, paired, with_first, missing, Missed, FirstMissing}
 
 -- the scan ends at i
-pub first_at : (p : ℕ → Bool) (i n : ℕ) → i < n → first_below i p ≡ None → p i ≡ true → first_below n p ≡ Some i
+first_at : (p : ℕ → Bool) (i n : ℕ) → i < n → first_below i p ≡ None → p i ≡ true → first_below n p ≡ Some i
 first_at p i zero l h t = absurd (omega arith)
 first_at p i (suc n) l h t =
     elim (cases_lt i n) [
@@ -44,9 +44,11 @@ first_place p xs n d h = go (first_below n (λ k. p (get_or xs k d))) (came (λ 
 
     go : (o : Option ℕ) → Came (λ k. p (get_or xs k d)) n o → position p (take n xs) ≡ o
     go None r =
-        rw (position_or_len_is p (take n xs) n d (omega (arith, long)) (λ k l. same k l ∙ r k l) (λ l. absurd (omega (arith, long))), long, le-ltb n n (omega arith)) refl
-    go (Some i) r =
-        rw (position_or_len_is p (take n xs) i d (omega (arith, long, r.0)) (λ k l. same k (omega (arith, l, r.0)) ∙ r.2 k l) (λ l. same i r.0 ∙ r.1), long, lt-ltb i n r.0) refl
+        let i = position_or_len_is p (take n xs) n d (omega (arith, long)) (λ k l. same k l ∙ r k l) (λ l. absurd (omega (arith, long))) in
+        rw (i, long, le-ltb n n (omega arith)) refl
+    go (Some j) r =
+        let i = position_or_len_is p (take n xs) j d (omega (arith, long, r.0)) (λ k l. same k (omega (arith, l, r.0)) ∙ r.2 k l) (λ l. same j r.0 ∙ r.1) in
+        rw (i, long, lt-ltb j n r.0) refl
 
 -- ---- the first missing delta
 module _ (n : ℕ) (lacks : ℕ → Bool) (needs : ℕ → ℕ → Bool) where
