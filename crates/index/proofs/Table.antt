@@ -1,5 +1,5 @@
--- The table of readings, and the first that is too large.
-use Rattle.std.proofs.Common.{◌≡◌, ℕ, ◌+◌, ◌<◌, ◌≤◌, Bool, false, ℤ, pos, None, refl, ap, add-one, arith}
+-- The table of readings, and what is found by it.
+use Rattle.std.proofs.Common.{◌≡◌, ℕ, ◌<◌, ◌≤◌, ℤ, pos, refl, ap, arith}
 use Rattle.std.proofs.lemmas.Bool.{le-ltb, lt-ltb}
 use Rattle.terms.specs.Bounds.{most_entities}
 use Rattle.terms.specs.declared.limits.Limits.{Limits}
@@ -42,7 +42,3 @@ module _ (n : ℕ) (w : ℕ → ℤ) (q : ℕ → ℕ → ℤ) where
 
   pub large_by_table : (price : ℕ) → first_below n (λ e. is_too_large (readings_below n w q e) price) ≡ first_below n (λ e. is_too_large (reading_of w q e) price)
   large_by_table price = same_below n _ _ (λ e h. ap (λ (r : ℤ × ℤ × ℤ). is_too_large r price) (read e h))
-
--- one number more that doesn't pass
-pub none_more : (p : ℕ → Bool) (i : ℕ) → first_below i p ≡ None → p i ≡ false → first_below (i + 1) p ≡ None
-none_more p i h f = rw (add-one, h, f) refl
