@@ -12,5 +12,6 @@ pub mod inner;
 pub mod listing;
 pub mod opening;
 pub mod readings;
+pub mod report;
 pub mod state;
 pub mod stocks;
