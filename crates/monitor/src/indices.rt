@@ -115,9 +115,9 @@ impl<'b, 't, B: Book> Monitor<'b, 't, B> {
         ensures same { self.new.book.ghost_name ≡ self.old.book.ghost_name }
     {
         let index = self.admits(underlying, Underlying::Index)?;
-        let day = self.inner.day(index);
-        let round = admits_snapshot(day, source)?;
-        let day = day.after(round, source.minute());
+        let before = self.inner.day(index);
+        let round = admits_snapshot(before, source)?;
+        let day = before.after(round, source.minute());
         self.watch(index, day, Rule::of(round), source)
     }
 
@@ -128,9 +128,9 @@ impl<'b, 't, B: Book> Monitor<'b, 't, B> {
         ensures same { self.new.book.ghost_name ≡ self.old.book.ghost_name }
     {
         let index = self.admits(underlying, Underlying::Index)?;
-        let day = self.inner.day(index);
-        admits_cure(day, source)?;
-        let day = day.cured(source.minute());
+        let before = self.inner.day(index);
+        admits_cure(before, source)?;
+        let day = before.cured(source.minute());
         self.watch(index, day, Rule::Cure, source)
     }
 
@@ -140,7 +140,8 @@ impl<'b, 't, B: Book> Monitor<'b, 't, B> {
         ensures same { self.new.book.ghost_name ≡ self.old.book.ghost_name }
     {
         let index = self.admits(underlying, Underlying::Index)?;
-        admits_settlement(self.inner.day(index))?;
+        let before = self.inner.day(index);
+        admits_settlement(before)?;
         let settlement = Settlement {
             limits: self.fixed.terms.limits,
             cover,

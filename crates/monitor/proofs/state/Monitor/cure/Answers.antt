@@ -25,7 +25,7 @@ returns-in_err-admits_cure-clause-step g c =
     let s : State = state_of g.B.Holds.held c.args.self.now in
     let d : Source = source_of g.D.Delta.answer g.D.PricedDelta.at g.D.PricedDelta.worth c.args.source.now in
     let u = c.args.underlying in
-    let was = c.day-day.ensures ∙ ap s.ledger.days c.in_ok-index.ensures.number in
+    let was = c.day-before.ensures ∙ ap s.ledger.days c.in_ok-index.ensures.number in
     let table = c.in_err-admits_cure.ensures ∙ ap (λ (day : Day). unless (cure_table day d) (Ok tt)) was in
     exit_by_second s (cure u d) (on_kind kind.Index s u) (cure_table (s.ledger.days u) d) (of_reading s.terms.listing s.ledger u d) refl c.from_residual-in_err-admits_cure.result _ c.from_residual-in_err-admits_cure.ensures.1 (sym c.in_ok-index.ensures.is) (sym table)
 
@@ -35,7 +35,7 @@ returns-clause-step g c =
     let d : Source = source_of g.D.Delta.answer g.D.PricedDelta.at g.D.PricedDelta.worth c.args.source.now in
     let u = c.args.underlying in
     let num = c.in_ok-index.ensures.number in
-    let was = c.day-day.ensures ∙ ap s.ledger.days num in
+    let was = c.day-before.ensures ∙ ap s.ledger.days num in
     let table = c.in_ok-admits_cure.ensures ∙ ap (λ (day : Day). unless (cure_table day d) (Ok tt)) was in
     let day = c.cured-day.ensures ∙ (λ j. cured_day (c.minute.ensures j) (was j)) in
     c.watch.ensures.step

@@ -22,6 +22,6 @@ returns-in_err-admits_settlement-clause-step g c =
     let s : State = state_of g.B.Holds.held c.args.self.now in
     let amounts : Amounts = g.C.Cover.amount c.args.cover.now in
     let u = c.args.underlying in
-    let was = c.day.ensures ∙ ap s.ledger.days c.in_ok-index.ensures.number in
+    let was = c.day-before.ensures ∙ ap s.ledger.days c.in_ok-index.ensures.number in
     let table = c.in_err-admits_settlement.ensures ∙ ap (λ (day : Day). unless (settlement_table day) (Ok tt)) was in
     exit_by_second s (settle u amounts) (on_kind kind.Index s u) (settlement_table (s.ledger.days u)) (Ok tt) refl c.from_residual-in_err-admits_settlement.result _ c.from_residual-in_err-admits_settlement.ensures.1 (sym c.in_ok-index.ensures.is) (sym table)

@@ -25,7 +25,7 @@ returns-in_err-round-clause-step g c =
     let s : State = state_of g.B.Holds.held c.args.self.now in
     let d : Source = source_of g.D.Delta.answer g.D.PricedDelta.at g.D.PricedDelta.worth c.args.source.now in
     let u = c.args.underlying in
-    let was = c.day-day.ensures ∙ ap s.ledger.days c.in_ok-index.ensures.number in
+    let was = c.day-before.ensures ∙ ap s.ledger.days c.in_ok-index.ensures.number in
     let table = c.in_err-round.ensures.is ∙ ap (λ (day : Day). unless (snapshot_table day d) (Ok tt)) was in
     exit_by_second s (snapshot u d) (on_kind kind.Index s u) (snapshot_table (s.ledger.days u) d) (of_reading s.terms.listing s.ledger u d) refl c.from_residual-in_err-round.result _ c.from_residual-in_err-round.ensures.1 (sym c.in_ok-index.ensures.is) (sym table)
 
@@ -35,7 +35,7 @@ returns-clause-step g c =
     let d : Source = source_of g.D.Delta.answer g.D.PricedDelta.at g.D.PricedDelta.worth c.args.source.now in
     let u = c.args.underlying in
     let num = c.in_ok-index.ensures.number in
-    let was = c.day-day.ensures ∙ ap s.ledger.days num in
+    let was = c.day-before.ensures ∙ ap s.ledger.days num in
     let table = c.in_ok-round.ensures.is ∙ ap (λ (day : Day). unless (snapshot_table day d) (Ok tt)) was in
     let round = c.in_ok-round.ensures.round in
     let rule = c.of.ensures ∙ ap rule_of round in
