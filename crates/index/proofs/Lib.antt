@@ -1,2 +1,3 @@
 pub mod Sweeps
 pub mod Table
+pub mod Reports

@@ -1,7 +1,8 @@
 -- One entity more: the step of a sweep.
-use Rattle.std.proofs.Common.{◌≡◌, ℕ, ◌+◌, ◌*◌, ◌<◌, ◌≤◌, Bool, true, false, cond, List, length, set, ap, ◌∙◌, arith}
+use Rattle.std.proofs.Common.{◌≡◌, ℕ, zero, suc, ◌+◌, ◌*◌, ◌<◌, ◌≤◌, Bool, true, false, cond, ltb, List, length, set, refl, ap, ap₂, ◌∙◌, ⊎_elim, arith}
 use mathlib.Core.Path.{fun_ext}
 use Rattle.std.proofs.lemmas.List.{get_or-set_same, get_or-set_other}
+use Rattle.std.proofs.lemmas.Bool.{cases_lt, le-ltb}
 use Rattle.std.proofs.lemmas.Bool.Decides.{nat_tests}
 use Rattle.terms.specs.declared.mark.Mark.{Mark}
 use Rattle.terms.specs.declared.mark.Mark.TheVariants.{NetLong, NetShort, GrossLong, GrossShort}
@@ -25,6 +26,19 @@ module _ (tells : ℕ → Mark → MarkRow → Bool) (rows : ℕ → Mark → Ma
 
   pub told_small : (n : ℕ) → told_count n tells rows ≤ n * 4
   told_small = sum_small (λ e. tally (λ m. tells e m (rows e m))) 4 (λ e. tally_small (λ m. tells e m (rows e m)))
+
+-- ---- only what is judged of the first n entities counts
+pub told_below : (n : ℕ) (tells tells' : ℕ → Mark → MarkRow → Bool) (rows : ℕ → Mark → MarkRow) → ((e : ℕ) → e < n → tells e ≡ tells' e) → told_count n tells rows ≡ told_count n tells' rows
+told_below zero tells tells' rows h = refl
+told_below (suc n) tells tells' rows h =
+    ap₂ (λ a b. a + b) (told_below n tells tells' rows (λ e l. h e (omega arith))) (ap (λ (t : Mark → MarkRow → Bool). tally (λ m. t m (rows n m))) (h n (omega arith)))
+
+pub swept_below : (n : ℕ) (judged judged' : ℕ → Mark → MarkRow → MarkRow) (rows : ℕ → Mark → MarkRow) → ((e : ℕ) → e < n → judged e ≡ judged' e) → swept n judged rows ≡ swept n judged' rows
+swept_below n judged judged' rows h =
+    fun_ext (λ e. ⊎_elim
+    (λ l. ap {B = Mark → MarkRow} (λ (j : Mark → MarkRow → MarkRow) (m : Mark). cond (ltb e n) (j m (rows e m)) (rows e m)) (h e l))
+    (λ l. rw (le-ltb e n l) refl)
+    (cases_lt e n))
 
 -- ---- the rows
 module _ (judged : ℕ → Mark → MarkRow → MarkRow) (old : ℕ → Mark → MarkRow) where

@@ -4,3 +4,5 @@ pub mod Marks
 pub mod Values
 pub mod Sweeps
 pub mod Calls
+pub mod Kept
+pub mod Listing

@@ -6,5 +6,6 @@ pub mod calls;
 pub mod day;
 pub mod mark;
 pub mod readings;
+pub mod report;
 pub mod sweep;
 pub mod value;

@@ -48,10 +48,8 @@ pub fn first_too_large(
 ) -> Option<usize>
     ensures { result ≡ first_below (min entities most_entities) (λ e. is_too_large (reading_in readings.now e) price) }
 {
-    for e in 0..entities.min(MOST_ENTITIES) {
-        if is_too_large(readings[e], price) {
-            return Some(e);
-        }
-    }
-    None
+    readings
+        .iter()
+        .take(entities)
+        .position(|reading| is_too_large(*reading, price))
 }

@@ -1,11 +1,12 @@
 -- A call's step, by the way that its causes go. What proves a monitor's code equal to the model cites these.
-use Rattle.std.proofs.Common.{◌≡◌, ℕ, Bool, true, false, cond, not, List, [], ◌∷◌, ℤ, Some, None, Ok, Err, Option, IsErrAnd, sym, refl, ap, ◌∙◌, ap₂, arith}
+use Rattle.std.proofs.Common.{◌≡◌, ℕ, Bool, true, false, cond, not, List, [], ◌∷◌, ◌++◌, ℤ, Some, None, Ok, Err, Option, Result, IsErrAnd, sym, refl, ap, ◌∙◌, ap₂, arith}
 use Rattle.std.proofs.lemmas.Result.{err_from_is_err_and}
 use Rattle.terms.specs.declared.command.Trade.{Trade}
+use Rattle.terms.specs.declared.kind.Underlying.{Underlying as Sort}
 use Rattle.terms.specs.declared.refusal.Refusal.{Refusal}
 use Rattle.terms.specs.declared.refusal.Refusal.TheVariants.{Closed}
 use Rattle.book.specs.Holding.{Holding, reply, posted, settle}
-use Rattle.model.specs.Causes.{Answer, Verdict, unless, verdict_of, number_in}
+use Rattle.model.specs.Causes.{Answer, Verdict, unless, unless_missing, verdict_of, kind_table, number_in}
 use Rattle.model.specs.Opening.{is_open}
 use Rattle.model.specs.State.{State, with_book, with_ticket}
 use Rattle.model.specs.Custody.{transfer_reply, transferred}
@@ -27,6 +28,19 @@ unless_ok ((false, w) ∷ t) v e = unless_ok t v e
 -- a check that declined, where its answer came through a `?`
 pub exit_unless : (t : List (Bool × Refusal)) (v r : Verdict) (why : Refusal) → IsErrAnd r (λ y. y ≡ why) → unless t (Ok tt) ≡ Err why → r ≡ unless t v
 exit_unless t v r why q h = let p = err_from_is_err_and r q in p.1 ∙ ap Err p.2 ∙ sym (unless_err t v why h)
+
+-- the same of a check that answers something
+pub exit_verdict : {A : Type 0} (t : List (Bool × Refusal)) (v : Verdict) (r : Result A Refusal) (why : Refusal) → IsErrAnd r (λ y. y ≡ why) → unless t (Ok tt) ≡ Err why → verdict_of r ≡ unless t v
+exit_verdict t v r why q h = let p = err_from_is_err_and r q in ap verdict_of p.1 ∙ ap Err p.2 ∙ sym (unless_err t v why h)
+
+-- what is told only of missing deltas, likewise
+pub unless_missing_err : (told : Option (ℕ × ℕ)) (v : Verdict) (why : Refusal) → unless_missing told (Ok tt) ≡ Err why → unless_missing told v ≡ Err why
+unless_missing_err None v why e = let z : ◌≡◌ {A = ℕ} 0 1 = cc in absurd (omega arith)
+unless_missing_err (Some told) v why e = e
+
+pub unless_missing_ok : (told : Option (ℕ × ℕ)) (v : Verdict) → unless_missing told (Ok tt) ≡ Ok tt → unless_missing told v ≡ v
+unless_missing_ok None v e = refl
+unless_missing_ok (Some told) v e = let z : ◌≡◌ {A = ℕ} 0 1 = cc in absurd (omega arith)
 
 -- ---- a step by its verdict
 
@@ -78,6 +92,24 @@ module _ (s : State) (c : Call) (table : List (Bool × Refusal)) (rest : Verdict
   -- let through
   pub by_none : unless table (Ok tt) ≡ Ok tt → rest ≡ Ok tt → (Ok (number s c), done s c) ≡ step s c
   by_none h r = step_ok s c (is ∙ unless_ok table rest h ∙ r)
+
+-- ---- a call whose causes are two tables and then a rest
+
+-- the causes of any call on an underlying of a kind
+abbrev pub on_kind : Sort → State → ℕ → List (Bool × Refusal)
+on_kind kind s u = closed_table s.terms ++ kind_table s.terms.listing kind u
+
+module _ (s : State) (c : Call) (first second : List (Bool × Refusal)) (rest : Verdict) (is : verdict s.terms s.ledger c ≡ unless first (unless second rest)) where
+  -- declined by the first, or by the second, where the answer came through a `?`
+  pub exit_by_first : (r : Answer) (why : Refusal) → IsErrAnd r (λ y. y ≡ why) → unless first (Ok tt) ≡ Err why → (r, s) ≡ step s c
+  exit_by_first = exit_by_table s c first (unless second rest) is
+
+  pub exit_by_second : (r : Answer) (why : Refusal) → IsErrAnd r (λ y. y ≡ why) → unless first (Ok tt) ≡ Ok tt → unless second (Ok tt) ≡ Err why → (r, s) ≡ step s c
+  exit_by_second r why q h e = exit_by_rest s c first (unless second rest) is r why q h (unless_err second rest why e)
+
+  -- let through by both: the rest decides
+  pub by_decision : unless first (Ok tt) ≡ Ok tt → unless second (Ok tt) ≡ Ok tt → decided rest (number s c) s (done s c) ≡ step s c
+  by_decision h k = ap (λ (v : Verdict). decided v (number s c) s (done s c)) (sym (is ∙ unless_ok first (unless second rest) h ∙ unless_ok second rest k))
 
 -- ---- entry
 

@@ -125,7 +125,7 @@ abbrev pub done : State → Call → State
 done s c = record { terms = s.terms; ledger = effect s.terms.listing s.ledger c; marks = remarked s c }
 
 -- a declined call leaves all as it was
-abbrev pub decided : Verdict → ℤ → State → State → Answer × State
+abbrev pub decided : {A : Type 0} → Verdict → ℤ → A → A → Answer × A
 decided (Ok ok) n old new = (Ok n, new)
 decided (Err why) n old new = (Err why, old)
 

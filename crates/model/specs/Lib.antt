@@ -6,6 +6,7 @@ pub mod Custody
 pub mod Stocks
 pub mod Indices
 pub mod Calls
+pub mod Reports
 pub mod Runs
 pub mod Breaches
 pub mod Handbook

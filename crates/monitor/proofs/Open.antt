@@ -1,14 +1,8 @@
--- What an open monitor's terms keep to.
+-- That a monitor is open, by the causes that it let through, and how many are counted at most.
 use Rattle.std.proofs.Common.{◌≡◌, ℕ, zero, suc, ◌≤◌, Bool, true, false, cond, not, List, ◌∷◌, Ok, refl, arith}
-use Rattle.std.proofs.lemmas.Bool.Decides.{nat_tests}
-use Rattle.terms.specs.Bounds.{most_entities}
 use Rattle.terms.specs.declared.refusal.Refusal.{Refusal}
 use Rattle.reading.specs.Sums.{count_below}
 use Rattle.model.specs.Causes.{unless}
-use Rattle.model.specs.Opening.{Terms, is_open}
-
-pub open_entities : (t : Terms) → is_open t ≡ true → t.listing.entities ≤ most_entities
-open_entities t h = grind (arith, nat_tests)
 
 -- what a table lets through that asks whether the monitor is open
 pub is_open_by : (b : Bool) (w : Refusal) (t : List (Bool × Refusal)) → Ok tt ≡ unless ((not b, w) ∷ t) (Ok tt) → b ≡ true

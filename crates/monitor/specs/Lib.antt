@@ -1,3 +1,4 @@
 pub mod Listed
 pub mod Modest
 pub mod View
+pub mod Watching

@@ -13,17 +13,6 @@ use terms::command::Trade;
 use terms::refusal::Refusal;
 
 impl<'b, 't, B: Book> Monitor<'b, 't, B> {
-    // CLOSED, unless the monitor is open.
-    pub(crate) fn opened(&self) -> Result<(), Refusal>
-        ensures { result ≡ unless (closed_table (state_of B.Holds.held self.now).terms) (Ok tt) }
-    {
-        if self.fixed.live {
-            Ok(())
-        } else {
-            Err(Refusal::Closed)
-        }
-    }
-
     // The pair is one of the book's.
     fn is_inside(&self, entity: usize, contract: usize) -> bool
         ensures { result ≡ inside (B.Holds.held self.now.book.now) entity contract }

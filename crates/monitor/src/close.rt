@@ -3,27 +3,27 @@ ghost use Rattle.std.specs.Prelude.{◌≡◌, ◌≤◌, not, ◌&&◌, ◌||�
 ghost use Rattle.terms.specs.Bounds.{two_minute, close_minute, most_entities};
 ghost use Rattle.delta.specs.Sources.{source_of};
 ghost use Rattle.reading.specs.Views.{weights_of, lacking_of};
-ghost use Rattle.reading.specs.Missing.{missing};
 ghost use Rattle.book.specs.Holding.{quantity_of};
 ghost use Rattle.reading.specs.Sheets.{within};
 ghost use Rattle.stock.specs.Close.{closed_base, charged_count, base_of};
-ghost use Rattle.model.specs.Causes.{unless, unless_missing};
+ghost use Rattle.model.specs.Causes.{unless};
 ghost use Rattle.model.specs.State.{at};
 ghost use Rattle.model.specs.Stocks.{close_table, delta_verdict, turn_by, turned};
 ghost use Rattle.model.specs.Calls.{close, step};
 ghost use Rattle.monitor.specs.View.{no_record, state_of, stock_in, stocks_of};
 
+use crate::causes::{is_unpriced, none_missing};
 use crate::inner::Inner;
-use crate::listing::StockNumber;
+use crate::listing::UnderlyingNumber;
 use crate::state::Monitor;
 use book::position::{Book, Holds};
 use delta::source::PricedDelta;
 use model::parts::StockRecord;
-use reading::missing::Needs;
 use reading::sheet::Sheet;
 use stock::close::Closing;
 use stock::turn::Turn;
-use terms::bounds::{CLOSE_MINUTE, PRICE_BOUND, TWO_MINUTE};
+use terms::bounds::{CLOSE_MINUTE, TWO_MINUTE};
+use terms::kind::Underlying;
 use terms::refusal::Refusal;
 
 // A close at a minute that is not permitted; the two o'clock deltas count in a ban only.
@@ -44,20 +44,10 @@ fn admits_close<D: PricedDelta>(stock: &StockRecord, two: &D, closing: &D) -> Re
     if is_untimely(stock.banned, two.minute(), closing.minute()) {
         return Err(Refusal::Time);
     }
-    if !(1..=PRICE_BOUND).contains(&closing.price()) {
+    if is_unpriced(closing) {
         return Err(Refusal::Price);
     }
     Ok(())
-}
-
-// DELTA with what is told, if anything is.
-fn none_missing<N: Needs>(who: &N, sheet: &Sheet, entities: usize) -> Result<(), Refusal>
-    ensures { result ≡ unless_missing (missing entities (lacking_of sheet.now) (N.needed who.now)) (Ok tt) }
-{
-    match sheet.first_missing(who, entities) {
-        None => Ok(()),
-        Some((contract, entity)) => Err(Refusal::Delta { contract, entity }),
-    }
 }
 
 // What market interest makes of a stock's ban.
@@ -69,7 +59,7 @@ fn turn_by(stock: &StockRecord, interest: u128) -> Turn
 
 impl Inner {
     // What is kept of a stock.
-    fn stock(&self, stock: StockNumber) -> &StockRecord
+    fn stock(&self, stock: UnderlyingNumber) -> &StockRecord
         ensures { result.now ≡ slice_index_or self.now.stocks stock.number no_record }
     {
         &self.stocks[stock.number]
@@ -80,7 +70,7 @@ impl Inner {
     fn close_stock<B: Holds>(
         &mut self,
         book: &B,
-        stock: StockNumber,
+        stock: UnderlyingNumber,
         entities: usize,
         closing: Closing<'_, '_>,
     ) -> u64
@@ -121,7 +111,7 @@ impl<'b, 't, B: Book> Monitor<'b, 't, B> {
         ensures step { (result, state_of B.Holds.held self.new) ≡ step (state_of B.Holds.held self.old) (close underlying (source_of D.Delta.answer D.PricedDelta.at D.PricedDelta.worth two.now) (source_of D.Delta.answer D.PricedDelta.at D.PricedDelta.worth closing.now)) }
         ensures same { self.new.book.ghost_name ≡ self.old.book.ghost_name }
     {
-        let stock = self.admits_stock(underlying)?;
+        let stock = self.admits(underlying, Underlying::Stock)?;
         admits_close(self.inner.stock(stock), two, closing)?;
         let at_two = self.sheet(underlying, two);
         let at_close = self.sheet(underlying, closing);

@@ -22,9 +22,9 @@ pub struct Terms<'t> {
     pub(crate) limits: Limits,
 }
 
-// The number of a stock that is listed.
+// The number of an underlying that is listed.
 #[derive(Clone, Copy)]
-pub(crate) struct StockNumber {
+pub(crate) struct UnderlyingNumber {
     pub(crate) number: usize,
     ghost below: { number < most_underlyings },
 }

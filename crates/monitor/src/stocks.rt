@@ -1,11 +1,8 @@
 // The stock side of a monitor: its market-wide limit, and the questions about it.
-ghost use Rattle.std.specs.Prelude.{◌≡◌, None, Ok, IfOk};
-ghost use Rattle.model.specs.Causes.{unless, verdict_of};
-ghost use Rattle.model.specs.Stocks.{stock_table};
-ghost use Rattle.model.specs.Calls.{closed_table, set_limit, step, limit_answer, ban_answer, violated_answer, charge_answer, base_in, if_open};
+ghost use Rattle.std.specs.Prelude.{◌≡◌, None};
+ghost use Rattle.model.specs.Calls.{set_limit, step, limit_answer, ban_answer, violated_answer, charge_answer, base_in, if_open};
 ghost use Rattle.monitor.specs.View.{violation_of, state_of};
 
-use crate::listing::StockNumber;
 use crate::state::Monitor;
 use book::position::{Book, Holds};
 use rules::limit::limit;
@@ -14,19 +11,6 @@ use terms::kind::Underlying;
 use terms::refusal::Refusal;
 
 impl<'b, 't, B: Book> Monitor<'b, 't, B> {
-    // The stock that a call is on, or the causes that decline any call on a stock: CLOSED, UNDERLYING, KIND.
-    pub(crate) fn admits_stock(&self, underlying: usize) -> Result<StockNumber, Refusal>
-        ensures is { verdict_of result ≡ unless (closed_table (state_of B.Holds.held self.now).terms) (unless (stock_table (state_of B.Holds.held self.now).terms.listing underlying) (Ok tt)) }
-        ensures number { IfOk result (λ stock. stock.number ≡ underlying) }
-    {
-        self.opened()?;
-        match self.fixed.terms.listing.underlyings.get(underlying) {
-            None => Err(Refusal::Underlying),
-            Some(Underlying::Index) => Err(Refusal::Kind),
-            Some(Underlying::Stock) => Ok(StockNumber { number: underlying }),
-        }
-    }
-
     // Sets a stock's market-wide limit from its free float and its daily deliveries.
     pub fn set_limit(
         &mut self,
@@ -37,7 +21,7 @@ impl<'b, 't, B: Book> Monitor<'b, 't, B> {
         ensures step { (result, state_of B.Holds.held self.new) ≡ step (state_of B.Holds.held self.old) (set_limit underlying free_float deliveries.now) }
         ensures same { self.new.book.ghost_name ≡ self.old.book.ghost_name }
     {
-        let stock = self.admits_stock(underlying)?;
+        let stock = self.admits(underlying, Underlying::Stock)?;
         let granted = limit(free_float, deliveries)?;
         self.inner.stocks[stock.number].limit = Some(granted);
         Ok(0)

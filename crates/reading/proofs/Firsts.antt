@@ -1,18 +1,27 @@
 -- The first number that passes a test, and the first missing delta.
-use Rattle.std.proofs.Common.{◌≡◌, ℕ, zero, suc, ◌<◌, Bool, true, false, cond, is_some, Some, None, Option, sym, refl, ap, ◌∙◌, subst, inl, inr, arith}
-use Rattle.std.proofs.lemmas.Bool.{cases_lt, cond-true, both_ways, false≢true}
+use Rattle.std.proofs.Common.{◌≡◌, ℕ, zero, suc, ◌<◌, ◌≤◌, Bool, true, false, cond, List, length, get_or, take, is_some, Some, None, Option, sym, refl, ap, ap₂, ◌∙◌, subst, inl, inr, arith}
+use Rattle.std.specs.List.{position}
+use Rattle.std.proofs.lemmas.List.{length-take-le, get_or-take}
+use Rattle.std.proofs.lemmas.List.Sums.{position_or_len_is}
+use Rattle.std.proofs.lemmas.Bool.{cases_lt, le-ltb, lt-ltb, cond-true, both_ways, false≢true}
 use Rattle.terms.specs.Bounds.{most_contracts}
 use Rattle.reading.specs.Sums.{or_else, first_below}
 use Rattle.reading.specs.Missing.{first_needing, paired, with_first, missing, Missed, FirstMissing}
 
 -- the scan ends at i
-pub first_at : (p : ℕ → Bool) (i n : ℕ) → i < n → first_below i p ≡ None → p i ≡ true → first_below n p ≡ Some i
+first_at : (p : ℕ → Bool) (i n : ℕ) → i < n → first_below i p ≡ None → p i ≡ true → first_below n p ≡ Some i
 first_at p i zero l h t = absurd (omega arith)
 first_at p i (suc n) l h t =
     elim (cases_lt i n) [
       | inl m ↦ rw (first_at p i n m h t) refl
       | inr m ↦ let s : n ≡ i = omega arith in rw (s, h, t) refl
     ]
+
+-- only the numbers below n are tested
+pub same_below : (n : ℕ) (p q : ℕ → Bool) → ((i : ℕ) → i < n → p i ≡ q i) → first_below n p ≡ first_below n q
+same_below zero p q h = refl
+same_below (suc n) p q h =
+    ap₂ or_else (same_below n p q (λ i l. h i (omega arith))) (ap (λ (b : Bool). cond b (Some n) None) (h n (omega arith)))
 
 -- where a scan came to: no number below n passes, or k does and none below it
 abbrev Came : (ℕ → Bool) → ℕ → Option ℕ → Type 0
@@ -28,6 +37,24 @@ step p n None false e r =
 came : (p : ℕ → Bool) (n : ℕ) → Came p n (first_below n p)
 came p zero = λ k l. absurd (omega arith)
 came p (suc n) = step p n (first_below n p) (p n) refl (came p n)
+
+-- the first place that passes among the first n of a list
+pub first_place : {X : Type 0} (p : X → Bool) (xs : List X) (n : ℕ) (d : X) → n ≤ length xs → position p (take n xs) ≡ first_below n (λ k. p (get_or xs k d))
+first_place p xs n d h = go (first_below n (λ k. p (get_or xs k d))) (came (λ k. p (get_or xs k d)) n)
+  where
+    long : length (take n xs) ≡ n
+    long = length-take-le n xs h
+
+    same : (k : ℕ) → k < n → p (get_or (take n xs) k d) ≡ p (get_or xs k d)
+    same k l = ap p (get_or-take n xs k d l)
+
+    go : (o : Option ℕ) → Came (λ k. p (get_or xs k d)) n o → position p (take n xs) ≡ o
+    go None r =
+        let i = position_or_len_is p (take n xs) n d (omega (arith, long)) (λ k l. same k l ∙ r k l) (λ l. absurd (omega (arith, long))) in
+        rw (i, long, le-ltb n n (omega arith)) refl
+    go (Some j) r =
+        let i = position_or_len_is p (take n xs) j d (omega (arith, long, r.0)) (λ k l. same k (omega (arith, l, r.0)) ∙ r.2 k l) (λ l. same j r.0 ∙ r.1) in
+        rw (i, long, lt-ltb j n r.0) refl
 
 -- ---- the first missing delta
 module _ (n : ℕ) (lacks : ℕ → Bool) (needs : ℕ → ℕ → Bool) where

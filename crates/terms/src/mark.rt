@@ -17,6 +17,14 @@ pub enum Mark {
 }
 
 impl Mark {
+    // All four, in the order in which they are gone through.
+    pub const ALL: [Mark; 4] = [
+        Mark::NetLong,
+        Mark::NetShort,
+        Mark::GrossLong,
+        Mark::GrossShort,
+    ];
+
     // The side whose cover counts for this mark.
     pub fn side(self) -> Side
         ensures { result ≡ side_of self }

@@ -2,26 +2,25 @@ use Rattle.std.proofs.Common.{◌≡◌, ℕ, ◌≤◌, Bool, List, ◌++◌, p
 use Rattle.std.proofs.lemmas.Int.{ints}
 use Rattle.terms.specs.Bounds.{most_entities}
 use Rattle.terms.specs.declared.refusal.Refusal.{Refusal}
-use Rattle.terms.specs.declared.refusal.Refusal.TheVariants.{Closed}
+use Rattle.terms.specs.declared.kind.Underlying.TheVariants as kind
 use Rattle.delta.specs.Sources.{Source, source_of}
 use Rattle.reading.specs.Readings.{interest}
 use Rattle.reading.specs.Sheets.{within, lacks_delta}
 use Rattle.stock.specs.Close.{closed_base, charged_count}
 use Rattle.model.specs.declared.parts.StockRecord.{StockRecord}
-use Rattle.model.specs.Causes.{Verdict, unless}
-use Rattle.model.specs.Opening.{is_open}
+use Rattle.model.specs.Causes.{Verdict, unless, kind_table}
 use Rattle.model.specs.State.{State, Quantities, at}
-use Rattle.model.specs.Stocks.{stock_table, close_table, delta_verdict, of_deltas, turn_by, turn_at, turned}
+use Rattle.model.specs.Stocks.{close_table, delta_verdict, of_deltas, turn_by, turn_at, turned}
 use Rattle.model.specs.Calls.{close, closed_table}
 use Rattle.model.proofs.Steps.{unless_err, unless_ok, exit_by_table, exit_by_rest, by_none}
 use Rattle.monitor.specs.View.{state_of, tickets_of, days_of, marks_of, stock_in}
-use Rattle.monitor.proofs.Open.{open_entities, is_open_by, count_few}
+use Rattle.monitor.proofs.Open.{count_few}
 use Rattle.monitor.proofs.state.Monitor.close.Given as given
 use Rattle.monitor.proofs.state.Monitor.close.Goals as goal
 
 -- the causes of a close that any call on a stock has
 abbrev causes : State → ℕ → List (Bool × Refusal)
-causes s u = closed_table s.terms ++ stock_table s.terms.listing u
+causes s u = closed_table s.terms ++ kind_table s.terms.listing kind.Stock u
 
 -- and the rest of them
 abbrev others : State → ℕ → Source → Source → Verdict
@@ -60,10 +59,7 @@ returns-in_err-admits_deltas-clause-step g c =
 charged_few : (g : given.Over) (c : goal.After-self-1 g) → c.close_stock-charged.result ≤ most_entities
 charged_few g c =
     let s : State = state_of g.B.Holds.held c.args.self.now in
-    let yes = is_open_by (is_open s.terms) Closed (stock_table s.terms.listing c.args.underlying) c.in_ok-stock.ensures.is in
-    let most = open_entities s.terms yes in
-    let few = count_few s.terms.listing.entities _ in
-    subst (λ (m : ℕ). m ≤ most_entities) (sym c.close_stock-charged.ensures.count) (le_trans few most)
+    subst (λ (m : ℕ). m ≤ most_entities) (sym c.close_stock-charged.ensures.count) (le_trans (count_few s.terms.listing.entities _) c.in_ok-stock.ensures.entities)
 
 pub overflow_cast-result : goal.overflow_cast-result
 overflow_cast-result g c =

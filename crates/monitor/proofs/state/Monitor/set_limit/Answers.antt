@@ -1,10 +1,11 @@
 use Rattle.std.proofs.Common.{ℕ, ◌<◌, Bool, List, ◌++◌, length, pos, Ok, sym, refl, ap, ◌∙◌, rules}
+use Rattle.terms.specs.declared.kind.Underlying.TheVariants as kind
 use Rattle.terms.specs.declared.refusal.Refusal.{Refusal}
 use Rattle.rules.specs.Limit.{limit_asked}
 use Rattle.model.specs.declared.parts.StockRecord.{StockRecord}
-use Rattle.model.specs.Causes.{Verdict, verdict_of}
+use Rattle.model.specs.Causes.{Verdict, verdict_of, kind_table}
 use Rattle.model.specs.State.{State, Stock, at}
-use Rattle.model.specs.Stocks.{stock_table, with_limit}
+use Rattle.model.specs.Stocks.{with_limit}
 use Rattle.model.specs.Calls.{Call, set_limit, closed_table}
 use Rattle.model.proofs.Steps.{exit_by_table, by_none}
 use Rattle.monitor.specs.View.{no_record, stock_in, state_of}
@@ -14,7 +15,7 @@ use Rattle.monitor.proofs.state.Monitor.set_limit.Goals as goal
 
 -- the causes of a limit setting before its numbers are looked at
 abbrev causes : State → ℕ → List (Bool × Refusal)
-causes s u = closed_table s.terms ++ stock_table s.terms.listing u
+causes s u = closed_table s.terms ++ kind_table s.terms.listing kind.Stock u
 
 pub returns-in_err-stock-clause-step : goal.returns-in_err-stock-clause-step
 returns-in_err-stock-clause-step g c =
