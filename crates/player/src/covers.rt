@@ -2,6 +2,7 @@
 use crate::notices::Notices;
 use crate::serve::Session;
 use book::position::Book;
+use book::row::Row;
 use cover::cash::Cash;
 use cover::depository::{Depository, DepositoryRow};
 use cover::joint::Joint;
@@ -31,7 +32,7 @@ pub(crate) struct Holdings {
 }
 
 impl Holdings {
-    pub(crate) fn new(heap: Global) -> Holdings {
+    fn new(heap: Global) -> Holdings {
         Holdings {
             rows: Vec::new(heap),
         }
@@ -66,6 +67,14 @@ pub(crate) struct Covers<'c> {
 }
 
 impl<'c> Covers<'c> {
+    // No holding and no cash, over the places for reports of cash.
+    pub(crate) fn new(heap: Global, places: &'c mut [Row<u64>]) -> Covers<'c> {
+        Covers {
+            holdings: Holdings::new(heap),
+            cash: Cash::new(places),
+        }
+    }
+
     // The cover that a settlement names.
     pub(crate) fn cover(&self, make: CoverMake) -> AnyCover<'_, 'c> {
         let depository = Depository {

@@ -4,8 +4,8 @@
 mod ask;
 mod close;
 mod covers;
+mod day;
 mod declare;
-mod index;
 mod lines;
 mod notices;
 pub mod play;

@@ -8,7 +8,6 @@ use crate::sources::blank;
 use book::grid::Grid;
 use book::list::List;
 use book::position::Book;
-use cover::cash::Cash;
 use journal::line::Layout;
 use monitor::state::Monitor;
 use opening::opened::Opening;
@@ -44,17 +43,12 @@ fn serve_all<R: Read + Drop, W: Write + Drop, B: Book>(
     lines: &mut Lines<R>,
     notices: &mut Notices<W>,
     setup: &Setup,
-    holdings: Holdings,
+    covers: &mut Covers<'_>,
     limits: Limits,
     book: &mut B,
 ) -> anyhow::Result<()> {
     let shape = book.shape();
     let monitor = Monitor::open(book, setup.contracts(), setup.underlyings(), limits);
-    let mut places = vec![in heap; blank(0u64); CASH_PLACES]?;
-    let covers = Covers {
-        holdings,
-        cash: Cash::new(&mut places),
-    };
     let mut session = Session::new(heap, notices, monitor, covers);
     session.tell_opening(shape)?;
     // A count, as above.
@@ -78,7 +72,7 @@ fn serve_over<R: Read + Drop, W: Write + Drop>(
     lines: &mut Lines<R>,
     notices: &mut Notices<W>,
     setup: &Setup,
-    holdings: Holdings,
+    covers: &mut Covers<'_>,
     opening: Opening,
 ) -> anyhow::Result<()> {
     let Opening { book, limits } = opening;
@@ -86,12 +80,12 @@ fn serve_over<R: Read + Drop, W: Write + Drop>(
         Layout::Grid => {
             let mut cells = vec![in heap; 0i64; book.places]?;
             let mut grid = Grid::new(&mut cells, book.entities, book.contracts);
-            serve_all(heap, lines, notices, setup, holdings, limits, &mut grid)
+            serve_all(heap, lines, notices, setup, covers, limits, &mut grid)
         }
         Layout::List => {
             let mut rows = vec![in heap; blank(0i64); book.places]?;
             let mut list = List::new(&mut rows, narrow(book.entities), narrow(book.contracts));
-            serve_all(heap, lines, notices, setup, holdings, limits, &mut list)
+            serve_all(heap, lines, notices, setup, covers, limits, &mut list)
         }
     }
 }
@@ -100,15 +94,16 @@ fn serve_over<R: Read + Drop, W: Write + Drop>(
 pub fn play<R: Read + Drop>(rt: &HostRuntime, input: R) -> anyhow::Result<()> {
     let mut lines = Lines::new(rt.alloc(), input)?;
     let mut notices = Notices::new(rt.alloc(), rt.stdout())?;
-    let mut holdings = Holdings::new(rt.alloc());
-    let setup = declare_all(&mut lines, &mut notices, &mut holdings)?;
+    let mut places = vec![in rt.alloc(); blank(0u64); CASH_PLACES]?;
+    let mut covers = Covers::new(rt.alloc(), &mut places);
+    let setup = declare_all(&mut lines, &mut notices, &mut covers.holdings)?;
     if let Some(opening) = setup.opening() {
         serve_over(
             rt.alloc(),
             &mut lines,
             &mut notices,
             &setup,
-            holdings,
+            &mut covers,
             opening,
         )?;
     }

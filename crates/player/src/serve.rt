@@ -33,7 +33,7 @@ pub(crate) struct Session<'n, 'b, 't, 'c, W: Write + Drop, B> {
     pub(crate) heap: Global,
     pub(crate) notices: &'n mut Notices<W>,
     pub(crate) monitor: Monitor<'b, 't, B>,
-    pub(crate) covers: Covers<'c>,
+    pub(crate) covers: &'n mut Covers<'c>,
 }
 
 impl<'n, 'b, 't, 'c, W: Write + Drop, B: Book> Session<'n, 'b, 't, 'c, W, B> {
@@ -41,7 +41,7 @@ impl<'n, 'b, 't, 'c, W: Write + Drop, B: Book> Session<'n, 'b, 't, 'c, W, B> {
         heap: Global,
         notices: &'n mut Notices<W>,
         monitor: Monitor<'b, 't, B>,
-        covers: Covers<'c>,
+        covers: &'n mut Covers<'c>,
     ) -> Session<'n, 'b, 't, 'c, W, B> {
         Session {
             heap,
