@@ -10,7 +10,9 @@ use Rattle.index.specs.declared.day.Day.{Day}
 use Rattle.index.specs.declared.day.Round.{Round}
 use Rattle.index.specs.declared.day.Round.TheVariants.{Regular, Final}
 use Rattle.index.specs.declared.mark.MarkRow.{MarkRow}
+use Rattle.index.specs.declared.report.Breach.{Breach}
 use Rattle.index.specs.Days.{round_at, one_more}
+use Rattle.index.specs.Kept.{IsKept, Names}
 use Rattle.index.specs.Calls.{rule_of, judged_by, told_by, settled_by, final_by, over_by, cover_in}
 use Rattle.index.specs.Marks.{no_row, finished}
 use Rattle.index.specs.Sweeps.{told_count}
@@ -21,7 +23,7 @@ use Rattle.model.specs.Indices.{round_in, round_of, watched_count, final_count}
 use Rattle.model.specs.Calls.{Call, snapshot, cure, settle}
 use Rattle.model.specs.Runs.{Run, before, after, book_at, listing_of, Accepted, answer_at}
 use Rattle.model.specs.Breaches.{Over, Sighted, ProvisionalAt, at_final, at_cure, Breached, FinalAt, Stands}
-use Rattle.model.specs.Handbook.{Truthful, MarksTellTheTruth, AnswersHowMany, AnswersCount, AnswersTellTheTruth}
+use Rattle.model.specs.Handbook.{Truthful, MarksTellTheTruth, AnswersHowMany, AnswersCount, AnswersTellTheTruth, ReportsTellTheTruth}
 use Rattle.model.proofs.HowMany.{how_many_none}
 use Rattle.model.proofs.Places.{terms_stay}
 use Rattle.model.proofs.Events.{watched_rows, settled_rows, answer_of_accepted, Event, snaps_at, cures_at, settles_at, rests_at, event}
@@ -203,3 +205,29 @@ module _ (r : Run) (k u : ℕ) where
 
 pub answers_tell_the_truth : AnswersTellTheTruth
 answers_tell_the_truth r k u = answers_count r k u
+
+-- ---- the report
+module _ (r : Run) (k u : ℕ) where
+  abbrev Kept : Breach → Type 0
+  Kept = IsKept r.opening.book.entities ((before r k).marks u)
+
+  abbrev Standing : Breach → Type 0
+  Standing b = Stands r k u b.entity b.mark b.largest
+
+  final_of : (b : Breach) → Kept b → Standing b
+  final_of b h = ((marks_tell_the_truth r k u b.entity b.mark).kept b.largest).0 h.value
+
+  kept_of : (b : Breach) → Standing b → Kept b
+  kept_of b s =
+      let x = s.breach.largest.breach in
+      record {
+        within = breach_watched r s.breach.largest.place u x.source b.entity b.mark x.breach;
+        value = ((marks_tell_the_truth r k u b.entity b.mark).kept b.largest).1 s;
+      }
+
+pub reports_tell_the_truth : ReportsTellTheTruth
+reports_tell_the_truth r k u list h = record {
+  named = λ i d l. final_of r k u _ (h.named i d l);
+  whole = λ b s. h.whole b (kept_of r k u b s);
+  once = h.once;
+}

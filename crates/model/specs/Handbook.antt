@@ -9,7 +9,9 @@ use Rattle.reading.specs.Sheets.{within}
 use Rattle.cover.specs.Covers.{Amounts, NowhereSmaller}
 use Rattle.index.specs.declared.day.Round.TheVariants.{Regular, Final}
 use Rattle.index.specs.declared.mark.MarkRow.{MarkRow}
+use Rattle.index.specs.declared.report.Breach.{Breach}
 use Rattle.index.specs.Days.{round_at}
+use Rattle.index.specs.Kept.{IsKept, Names}
 use Rattle.model.specs.Opening.{terms_of, is_open}
 use Rattle.model.specs.Readings.{net_at, interest_at}
 use Rattle.model.specs.Calls.{Call, snapshot, cure, settle, close}
@@ -117,6 +119,11 @@ pub record Truthful (r : Run) (k u e : ℕ) (m : Mark) (row : MarkRow) : Type 0 
 abbrev pub MarksTellTheTruth : Type 0
 MarksTellTheTruth = (r : Run) (k u e : ℕ) (m : Mark) → Truthful r k u e m ((before r k).marks u e m)
 
+-- a list of what is kept of an index, as a report writes it, names exactly the final breaches of its last settlement
+abbrev pub ReportsTellTheTruth : Type 0
+ReportsTellTheTruth =
+    (r : Run) (k u : ℕ) (list : List Breach) → Names (IsKept r.opening.book.entities ((before r k).marks u)) list → Names (λ b. Stands r k u b.entity b.mark b.largest) list
+
 -- ---- whoever does not move is never charged
 
 -- at each close through place k of the ban that began at place s, the entity's quantities in the stock are those at its
@@ -165,6 +172,7 @@ pub record Handbook : Type 0 where
   pub larger : LargerAddsNoBreach
   pub answers : AnswersTellTheTruth
   pub marks : MarksTellTheTruth
+  pub reports : ReportsTellTheTruth
   pub declined : DeclinedChangesNothing
   pub terms : TermsStay
   pub postings : OnlyPostingsMove
