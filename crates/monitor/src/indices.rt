@@ -39,7 +39,7 @@ impl Inner {
     }
 
     // What an accepted call makes of an index: its day becomes another, and each mark is judged. Answers how many count.
-    fn judge<J: Judge>(
+    fn judge_index<J: Judge>(
         &mut self,
         index: UnderlyingNumber,
         day: Day,
@@ -98,10 +98,8 @@ impl<'b, 't, B: Book> Monitor<'b, 't, B> {
             price: source.price(),
             readings: &readings,
         };
-        Ok(
-            self.inner
-                .judge(index, day, &watch, self.fixed.terms.listing.entities),
-        )
+        let entities = self.fixed.terms.listing.entities;
+        Ok(self.inner.judge_index(index, day, &watch, entities))
     }
 
     // A snapshot of an index: a regular one sights the marks that are over, the final one makes them provisional. Answers how
@@ -148,7 +146,10 @@ impl<'b, 't, B: Book> Monitor<'b, 't, B> {
             index: index.number,
         };
         let entities = self.fixed.terms.listing.entities;
-        Ok(self.inner.judge(index, Day::new(), &settlement, entities))
+        Ok(
+            self.inner
+                .judge_index(index, Day::new(), &settlement, entities),
+        )
     }
 
     // A mark of an entity on an index's day, with what the last settlement kept of it.

@@ -13,7 +13,7 @@ use crate::inner::Inner;
 use crate::listing::{Listing, Terms};
 use crate::state::Monitor;
 use book::position::Book;
-use index::day::{Day, Due};
+use index::day::Day;
 use index::mark::{Four, MarkRow};
 use model::parts::{IndexRecord, StockRecord};
 use stock::base::Base;
@@ -76,12 +76,7 @@ impl Inner {
         ensures marks { marks_of result.indices ≡ (λ u e m. no_row) }
         ensures tickets { result.tickets ≡ replicate ticket_count None }
     {
-        let row = MarkRow {
-            sighted: false,
-            count: 0,
-            largest: 0,
-            kept: None,
-        };
+        let row = MarkRow::new();
         let rows = Four {
             net_long: row,
             net_short: row,
@@ -89,11 +84,7 @@ impl Inner {
             gross_short: row,
         };
         let index = IndexRecord {
-            day: Day {
-                taken: 0,
-                last: None,
-                due: Due::Snapshot,
-            },
+            day: Day::new(),
             marks: [rows; MOST_ENTITIES],
         };
         let stock = StockRecord {

@@ -28,10 +28,10 @@ returns-clause-step g c =
     let rows : ℕ → Mark → MarkRow = s.marks u in
     let few : min n most_entities ≡ n = omega (arith, c.requires) in
     let table = c.in_ok-readings.ensures.table in
-    let t = c.judge.ensures in
-    let fits : SFits w64 c.judge.result = search rules in
+    let t = c.judge_index.ensures in
+    let fits : SFits w64 c.judge_index.result = search rules in
     let told =
-    to_z-of_z w64 c.judge.result fits
+    to_z-of_z w64 c.judge_index.result fits
     ∙ t.told
     ∙ (λ j. pos (told_count (few j) (told_by rule s.terms.limits (c.price.ensures j) (table j)) rows))
     ∙ ap pos (told_by_table n w q rule s.terms.limits d.price rows) in

@@ -9,7 +9,7 @@ use Rattle.model.specs.declared.parts.IndexRecord.{IndexRecord}
 use Rattle.model.specs.State.{at}
 use Rattle.monitor.specs.View.{no_index, marks_of}
 use Rattle.monitor.proofs.Same.{at_set_by}
-use Rattle.monitor.proofs.inner.Inner.judge.Goals as goal
+use Rattle.monitor.proofs.inner.Inner.judge_index.Goals as goal
 
 pub overflow_cast-result : goal.overflow_cast-result
 overflow_cast-result g c =
