@@ -34,10 +34,6 @@ pub exit_verdict : {A : Type 0} (t : List (Bool × Refusal)) (v : Verdict) (r : 
 exit_verdict t v r why q h = let p = err_from_is_err_and r q in ap verdict_of p.1 ∙ ap Err p.2 ∙ sym (unless_err t v why h)
 
 -- what is told only of missing deltas, likewise
-pub unless_missing_err : (told : Option (ℕ × ℕ)) (v : Verdict) (why : Refusal) → unless_missing told (Ok tt) ≡ Err why → unless_missing told v ≡ Err why
-unless_missing_err None v why e = let z : ◌≡◌ {A = ℕ} 0 1 = cc in absurd (omega arith)
-unless_missing_err (Some told) v why e = e
-
 pub unless_missing_ok : (told : Option (ℕ × ℕ)) (v : Verdict) → unless_missing told (Ok tt) ≡ Ok tt → unless_missing told v ≡ v
 unless_missing_ok None v e = refl
 unless_missing_ok (Some told) v e = let z : ◌≡◌ {A = ℕ} 0 1 = cc in absurd (omega arith)

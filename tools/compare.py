@@ -1,0 +1,158 @@
+#!/usr/bin/env python3
+"""Plays random journals, valid and damaged, through futeq and through tools/reference.py, and stops at the first difference.
+
+usage: compare.py FUTEQ [JOURNALS [SEED]]
+"""
+import random
+import subprocess
+import sys
+
+from reference import replay
+
+EDGES = [0, 1, 2, 3, -1, 9, 10, 15, 16, 127, 128, 554, 555, 570, 840, 884, 885, 899, 900, 930, 931, 5000, 10**9, 10**9 + 1,
+         10**14, 10**14 + 1, 2**63 - 1, -2**63, 2**63]
+
+
+def edge(r, *usual):
+    return r.choice(usual) if r.random() < 0.93 else r.choice(EDGES)
+
+
+class Writer:
+    def __init__(self, r):
+        self.r = r
+        self.under = [r.choice(["index", "index", "stock"]) for _ in range(r.randint(1, 4))]
+        self.contracts = []
+        for _ in range(r.randint(1, 8)):
+            u = r.randrange(len(self.under))
+            kinds = ["call", "put"] if self.under[u] == "index" else ["call", "put", "future"]
+            self.contracts.append((u, r.choice(kinds)))
+        self.e = r.randint(1, 6)
+        self.days = {}
+
+    def opening(self):
+        r, n = self.r, len(self.contracts)
+        yield f"book grid {self.e} {n}" if r.random() < 0.5 else f"book list {self.e} {n} {r.choice([3, 8, 64])}"
+        for kind in self.under:
+            yield f"underlying {kind}"
+        for u, kind in self.contracts:
+            yield f"contract {u} {kind}"
+        yield f"limits {edge(r, 10**8, 10**9, 3 * 10**9)} {edge(r, 2 * 10**9, 5 * 10**9)}"
+        yield "open"
+
+    def source(self, u, minute):
+        r = self.r
+        price = edge(r, *[10000, 20000, 45000] * 9, 10**8)
+        if r.random() < 0.7:
+            span = {"call": (0, 10000), "put": (-10000, 0), "future": (10000, 10000)}
+            rows = [f"{c}:{r.randint(*span[k])}" for c, (v, k) in enumerate(self.contracts) if v == u and r.random() < 0.97]
+            return " ".join([f"published {minute} {price}"] + rows)
+        rows = [f"{c}:{r.choice([5000, price, 30000])}" for c, (v, k) in enumerate(self.contracts) if v == u and r.random() < 0.97]
+        return " ".join([f"settlement {minute} {price}"] + rows)
+
+    def of(self, kind):
+        found = [u for u, k in enumerate(self.under) if k == kind]
+        return self.r.choice(found) if found and self.r.random() < 0.95 else self.r.randrange(5)
+
+    # Mostly the next call of the index's day, so that days are completed.
+    def day(self):
+        r, u = self.r, self.of("index")
+        taken, last, due = self.days.setdefault(u, (0, None, "snapshot"))
+        if r.random() < 0.08:
+            minute = edge(r, 554, 555, 700, 884, 885, 930)
+            return f"{r.choice(['snapshot', 'cure'])} {u} {self.source(u, minute)}"
+        if due == "settlement":
+            self.days.pop(u)
+            return f"settle {u} {r.choice(['depository', 'cash', 'joint'])}"
+        if due == "cure":
+            minute = last + r.choice([15] * 19 + [14, 16])
+            if minute == last + 15:
+                self.days[u] = (taken, minute, "snapshot")
+            return f"cure {u} {self.source(u, minute)}"
+        low = 555 if last is None else last + 1
+        final = low > 884 or taken >= 3 and r.random() < 0.7
+        minute = r.randint(max(low, 885), 930) if final else r.randint(low, min(low + 60, 884))
+        self.days[u] = (taken + 1, minute, "settlement" if final else "cure")
+        return f"snapshot {u} {self.source(u, minute)}"
+
+    def line(self):
+        r, n = self.r, len(self.contracts)
+        e, c, t = edge(r, *range(self.e)), edge(r, *range(n)), edge(r, *range(16))
+        change = edge(r, *range(-30, 31), *(n * 10**4 for n in range(-30, 31)), 10**9, -10**9)
+        way = r.random()
+        if way < 0.25:
+            return f"post {e} {c} {change}"
+        if way < 0.30:
+            return f"entry {t} {e} {edge(r, *range(self.e))} {c} {change}"
+        if way < 0.35:
+            return f"confirm {t}"
+        if way < 0.60:
+            return self.day()
+        if way < 0.61:
+            return f"settle {self.of('index')} {r.choice(['depository', 'cash', 'joint'])}"
+        if way < 0.69:
+            return f"report {self.of('index')} {edge(r, 0, 1, 4, 24, 512)}"
+        if way < 0.72:
+            return f"cash {e} {self.of('index')} {edge(r, 0, 10**8, 10**9, 10**10)}"
+        if way < 0.75:
+            return f"holding {e} {r.choice(['equity', 'equity', 'other'])} {edge(r, 1000, 10**5)} {edge(r, 100, 10000)}"
+        if way < 0.79:
+            return f"limit {self.of('stock')} {edge(r, 1000, 5000, 10**5)} " + " ".join(str(edge(r, 1, 5, 10, 2000)) for _ in range(r.randint(0, 4)))
+        if way < 0.87:
+            u = self.of("stock")
+            return f"close {u} {self.source(u, edge(r, 840))} / {self.source(u, edge(r, 930))}"
+        u = edge(r, *range(len(self.under)))
+        return "ask " + r.choice([
+            f"quantity {e} {c}", f"base {e} {c}", f"limit {u}", f"ban {u}", f"violated {u} {e}", f"charge {u} {e}",
+            f"mark {u} {e} {r.choice(['net-long', 'net-short', 'gross-long', 'gross-short'])}",
+            f"reading {u} notional", f"reading {u} {self.source(u, 600)}", f"notional {u}"])
+
+
+def damaged(r, line):
+    data = bytearray(line)
+    for _ in range(r.randint(1, 3)):
+        at = r.randrange(len(data) + 1)
+        way = r.random()
+        if way < 0.4 and at < len(data):
+            data[at] = r.randrange(256)
+        elif way < 0.7:
+            data[at:at] = bytes([r.choice(b" \t-0123456789:/#abc\r\xff\x00")])
+        else:
+            del data[at:at + r.randint(1, 4)]
+    return bytes(data).replace(b"\n", b" ")
+
+
+def journal(r):
+    writer = Writer(r)
+    lines = [line.encode() for line in writer.opening()]
+    if r.random() < 0.1:
+        r.shuffle(lines)
+    lines += [writer.line().encode() for _ in range(r.randint(20, 300))]
+    share = r.choice([0, 0, 0.05, 0.3])
+    lines = [damaged(r, line) if r.random() < share else line for line in lines]
+    return b"\n".join(lines) + r.choice([b"", b"\n"])
+
+
+def main():
+    futeq = sys.argv[1]
+    journals = int(sys.argv[2]) if len(sys.argv) > 2 else 200
+    seed = int(sys.argv[3]) if len(sys.argv) > 3 else 1
+    lines = 0
+    for n in range(seed, seed + journals):
+        data = journal(random.Random(n))
+        ran = subprocess.run([futeq], input=data, capture_output=True)
+        want = replay(data).encode()
+        if ran.returncode != 0 or ran.stdout != want:
+            open("differs.journal", "wb").write(data)
+            got, wish = ran.stdout.split(b"\n"), want.split(b"\n")
+            for a, b in zip(got, wish):
+                if a != b:
+                    print("futeq:    ", a.decode(errors="replace"))
+                    print("reference:", b.decode(errors="replace"))
+                    break
+            sys.exit(f"seed {n} differs (status {ran.returncode}); the journal is in differs.journal")
+        lines += data.count(b"\n") + 1
+    print(f"{journals} journals, {lines} lines: the same")
+
+
+if __name__ == "__main__":
+    main()
