@@ -4,6 +4,7 @@ pub mod Larger
 pub mod Events
 pub mod Days
 pub mod HowMany
+pub mod InOrder
 pub mod Marks
 pub mod Truth
 pub mod Quiet

@@ -3,6 +3,7 @@ use Rattle.model.specs.Handbook.{Handbook}
 use Rattle.model.proofs.Places.{outcomes, goes_on, declined, terms_stay}
 use Rattle.model.proofs.Limits.{limits}
 use Rattle.model.proofs.Larger.{larger_adds_no_breach}
+use Rattle.model.proofs.InOrder.{days_go_in_order}
 use Rattle.model.proofs.Truth.{marks_tell_the_truth, answers_tell_the_truth, reports_tell_the_truth}
 use Rattle.model.proofs.Quiet.{postings}
 use Rattle.model.proofs.Ban.{base_shrinks, market_shrinks}
@@ -14,6 +15,7 @@ rules = record {
   goes_on = goes_on;
   limits = limits;
   larger = larger_adds_no_breach marks_tell_the_truth;
+  days = days_go_in_order;
   answers = answers_tell_the_truth;
   marks = marks_tell_the_truth;
   reports = reports_tell_the_truth;

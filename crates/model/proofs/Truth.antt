@@ -12,7 +12,7 @@ use Rattle.index.specs.declared.day.Round.TheVariants.{Regular, Final}
 use Rattle.index.specs.declared.mark.MarkRow.{MarkRow}
 use Rattle.index.specs.declared.report.Breach.{Breach}
 use Rattle.index.specs.Days.{round_at, one_more}
-use Rattle.index.specs.Kept.{IsKept, Names}
+use Rattle.index.specs.Kept.{IsKept}
 use Rattle.index.specs.Calls.{rule_of, judged_by, told_by, settled_by, final_by, over_by, cover_in}
 use Rattle.index.specs.Marks.{no_row, finished}
 use Rattle.index.specs.Sweeps.{told_count}

@@ -55,6 +55,21 @@ pub record Owed (r : Run) (k u j : ℕ) (d : Source) : Type 0 where
   pub uncured : Uncured r u j k
   pub unsettled : Unsettled r u j k
 
+-- place j, before place k, has an accepted snapshot of the index, which was not settled since
+pub record Taken (r : Run) (k u j : ℕ) : Type 0 where
+  pub source : Source
+  pub earlier : j < k
+  pub accepted : Accepted r j (snapshot u source)
+  pub unsettled : Unsettled r u j k
+
+-- just before place k the index's day has its final snapshot
+pub record Finished (r : Run) (k u : ℕ) : Type 0 where
+  pub place : ℕ
+  pub source : Source
+  pub last : LastSnapshot r k u place source
+  pub final : round_at source.minute ≡ Some Final
+  pub unsettled : Unsettled r u place k
+
 -- just before place k a mark is sighted: it was over at a snapshot for which a cure is owed
 pub record Sighted (r : Run) (k u e : ℕ) (m : Mark) : Type 0 where
   pub place : ℕ

@@ -1,5 +1,5 @@
 -- The laws: what holds of every run.
-use Rattle.std.specs.Prelude.{◌≡◌, ℕ, ◌<◌, ◌≤◌, true, false, ◌↔◌, List, [], ◌∷◌, take, pos, Some, Ok}
+use Rattle.std.specs.Prelude.{◌≡◌, ℕ, ◌+◌, ◌<◌, ◌≤◌, true, false, ◌↔◌, List, [], ◌∷◌, take, pos, Some, Ok}
 use Rattle.std.specs.List.{slice_get}
 use Rattle.terms.specs.declared.mark.Mark.{Mark}
 use Rattle.terms.specs.declared.refusal.Refusal.{Refusal}
@@ -10,13 +10,14 @@ use Rattle.cover.specs.Covers.{Amounts, NowhereSmaller}
 use Rattle.index.specs.declared.day.Round.TheVariants.{Regular, Final}
 use Rattle.index.specs.declared.mark.MarkRow.{MarkRow}
 use Rattle.index.specs.declared.report.Breach.{Breach}
+use Rattle.index.specs.Bounds.{cure_minutes, snapshots_least}
 use Rattle.index.specs.Days.{round_at}
 use Rattle.index.specs.Kept.{IsKept, Names}
 use Rattle.model.specs.Opening.{terms_of, is_open}
 use Rattle.model.specs.Readings.{net_at, interest_at}
 use Rattle.model.specs.Calls.{Call, snapshot, cure, settle, close}
 use Rattle.model.specs.Runs.{Run, before, after, book_at, listing_of, refusal_at, answer_at, Accepted, outcome_from, outcome, followed_by, posted_at, old_base, new_base, charge_after, CloseOf, Between}
-use Rattle.model.specs.Breaches.{Over, Sighted, ProvisionalAt, Provisional, Breached, LargestOrNone, FinalAt, FinalBreach, Stands, HowMany, HowManyMarks}
+use Rattle.model.specs.Breaches.{Over, Owed, Taken, Finished, Sighted, ProvisionalAt, Provisional, Breached, LargestOrNone, FinalAt, FinalBreach, Stands, HowMany, HowManyMarks}
 use Rattle.model.specs.State.{opened}
 
 -- ---- the monitor is the outcome of its calls
@@ -83,6 +84,23 @@ pub record NoneAdded (r r' : Run) (k : ℕ) : Type 0 where
 -- larger limits and covers never add a breach
 abbrev pub LargerAddsNoBreach : Type 0
 LargerAddsNoBreach = (r r' : Run) → Larger r r' → (k : ℕ) → NoneAdded r r' k
+
+-- ---- an index's day goes in order
+
+-- at place k, of an index
+pub record InOrder (r : Run) (k u : ℕ) : Type 0 where
+  -- while a cure is owed no other call of its day is accepted
+  pub cure_first : (j : ℕ) (d : Source) → Owed r k u j d → ((d' : Source) → Accepted r k (snapshot u d') → ⊥) × ((c : Amounts) → Accepted r k (settle u c) → ⊥)
+  -- a cure is one that is owed, exactly so many minutes after its snapshot
+  pub cures_owed : (d : Source) → Accepted r k (cure u d) → (j : ℕ) × (s : Source) × Owed r k u j s × (d.minute ≡ s.minute + cure_minutes)
+  -- nothing but the settlement follows the final snapshot
+  pub final : Finished r k u → ((d : Source) → Accepted r k (snapshot u d) → ⊥) × ((d : Source) → Accepted r k (cure u d) → ⊥)
+  -- what is settled has its final snapshot, and snapshots enough since the settlement before
+  pub settlement : (c : Amounts) → Accepted r k (settle u c) → Finished r k u × ((n : ℕ) × HowMany (Taken r k u) k n × (snapshots_least ≤ n))
+
+-- every index's day does
+abbrev pub DaysGoInOrder : Type 0
+DaysGoInOrder = (r : Run) (k u : ℕ) → InOrder r k u
 
 -- ---- the marks tell the truth
 
@@ -170,6 +188,7 @@ pub record Handbook : Type 0 where
   pub goes_on : GoesOn
   pub limits : LimitsRefuseNothing
   pub larger : LargerAddsNoBreach
+  pub days : DaysGoInOrder
   pub answers : AnswersTellTheTruth
   pub marks : MarksTellTheTruth
   pub reports : ReportsTellTheTruth
