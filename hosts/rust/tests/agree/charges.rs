@@ -78,6 +78,20 @@ fn ends_of_the_charge_agree() {
     }
 }
 
+/// Products that would be small if 64 bits were all that they had.
+#[test]
+fn products_beyond_64_bits_agree() {
+    let mut numbers = Numbers(4);
+    let mut beyond = 0;
+    for _ in 0..100_000 {
+        let price = numbers.within(60_000, DEAREST);
+        let times = numbers.within(1, 1_000);
+        let violated = ((u128::from(times) << 64) / u128::from(price) + 1) as u64;
+        beyond += usize::from(agree(violated, price) == Some(10_000_000));
+    }
+    assert!(beyond > 10_000, "{beyond}");
+}
+
 #[test]
 fn known_charges() {
     assert_eq!(charge(1_000_000_000, 1_234), Some(1_234_000));
