@@ -1,0 +1,6 @@
+use Rattle.examples.proofs.Readings.{four_clients}
+use Rattle.examples.proofs.IndexDay.{net_limit, settlement, minutes}
+use Rattle.examples.proofs.worked.Goals as goal
+
+pub returns : goal.returns
+returns c = record { four_clients = four_clients; net_limit = net_limit; settlement = settlement; minutes = minutes }
