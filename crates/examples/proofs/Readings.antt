@@ -7,10 +7,10 @@ use Rattle.examples.specs.Readings.{FourClients}
 pub four_clients : FourClients
 unfolding count blocked reply posted net long short
 four_clients = record {
-  first_client = refl;
-  second_client = refl;
-  third_client = refl;
-  fourth_client = refl;
+  client_0 = refl;
+  client_1 = refl;
+  client_2 = refl;
+  client_3 = refl;
   market_interest = refl;
   notional_interest = refl;
 }

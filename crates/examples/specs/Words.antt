@@ -2,22 +2,25 @@
 use Rattle.std.specs.Prelude.{◌≡◌, ℕ, Bool, List, ℤ, pos, neg_ℤ, Some, Ok, slice_get}
 use Rattle.terms.specs.declared.kind.Contract.{Contract}
 use Rattle.terms.specs.declared.kind.Kind.{Kind}
-use Rattle.terms.specs.declared.refusal.Refusal.{Refusal}
 use Rattle.terms.specs.declared.mark.Mark.{Mark}
-use Rattle.index.specs.declared.mark.MarkRow.{MarkRow}
+use Rattle.terms.specs.declared.refusal.Refusal.{Refusal}
 use Rattle.delta.specs.Makes.{published}
 use Rattle.delta.specs.Sources.{Source}
+use Rattle.index.specs.declared.mark.MarkRow.{MarkRow}
 use Rattle.model.specs.Runs.{Run, after, answer_at, refusal_at}
 
 -- ---- what is handed in
 
--- the first underlying; each example watches one
-abbrev pub first : ℕ
-first = 0
+-- each example has one underlying, an index or a stock
+abbrev pub index : ℕ
+index = 0
+
+abbrev pub stock : ℕ
+stock = 0
 
 -- a contract on it
 abbrev pub contract : Kind → Contract
-contract kind = record { underlying = first; kind = kind }
+contract kind = record { underlying = 0; kind = kind }
 
 -- a change of a quantity, in units
 abbrev pub bought : ℕ → ℤ
@@ -44,10 +47,10 @@ Answers r place n = answer_at r place ≡ Some (Ok (pos n))
 abbrev pub Declines : Run → ℕ → Refusal → Type 0
 Declines r place why = refusal_at r place ≡ Some why
 
--- a mark of an entity just after the call at a place
+-- an entity's mark just after it
 abbrev pub mark_after : Run → ℕ → ℕ → Mark → MarkRow
-mark_after r place entity mark = (after r place).marks first entity mark
+mark_after r place entity mark = (after r place).marks index entity mark
 
 -- whether there is a ban just after it
 abbrev pub ban_after : Run → ℕ → Bool
-ban_after r place = ((after r place).ledger.stocks first).ban
+ban_after r place = ((after r place).ledger.stocks stock).ban
