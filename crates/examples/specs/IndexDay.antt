@@ -44,13 +44,15 @@ large = post 0 0 (bought 2360000)
 abbrev pub at_minute : ℕ → Source
 at_minute minute = priced minute 4500000 (pos 5000 ∷ pos 5000 ∷ [])
 
+-- which is over the limit
 abbrev pub above : Run
 above = run_of (large ∷ snapshot index (at_minute 600) ∷ [])
 
--- the index stands at 50,000 rupees
+-- the index stands at 50,000 rupees, and the calls count a unit and 3,541 ten-thousandths of one
 abbrev pub at_50000 : Source
 at_50000 = priced 600 5000000 (pos 10000 ∷ pos 3541 ∷ [])
 
+-- two entities, one at the limit and one just above it
 abbrev pub brink : Run
 brink = run_of (post 0 0 (bought 1000000) ∷ post 1 1 (bought 2824061) ∷ snapshot index at_50000 ∷ [])
 

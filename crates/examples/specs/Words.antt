@@ -11,10 +11,11 @@ use Rattle.model.specs.Runs.{Run, after, answer_at, refusal_at}
 
 -- ---- what is handed in
 
--- each example has one underlying, an index or a stock
+-- each example has one underlying: an index
 abbrev pub index : ℕ
 index = 0
 
+-- or a stock
 abbrev pub stock : ℕ
 stock = 0
 
@@ -22,10 +23,11 @@ stock = 0
 abbrev pub contract : Kind → Contract
 contract kind = record { underlying = 0; kind = kind }
 
--- a change of a quantity, in units
+-- a change of a quantity, in units: up
 abbrev pub bought : ℕ → ℤ
 bought n = pos n
 
+-- and down
 abbrev pub sold : ℕ → ℤ
 sold n = neg_ℤ (pos n)
 
