@@ -1,0 +1,3 @@
+mod Readings
+mod IndexDay
+mod Ban

@@ -1,0 +1,5 @@
+pub mod Words
+pub mod Readings
+pub mod IndexDay
+pub mod Ban
+pub mod Worked
