@@ -1,3 +1,4 @@
 mod Readings
 mod IndexDay
 mod Ban
+pub mod Premises

@@ -17,37 +17,37 @@ clients = record {
     limits = record { net = crore; gross = crore };
   };
   calls =
-      -- client 0 buys 400 futures and sells 200 calls
-      post 0 0 (bought 400)
-      ∷ post 0 1 (sold 200)
+      -- client 0 buys 300 futures
+      post 0 0 (bought 300)
       -- client 1 buys 500 calls
       ∷ post 1 1 (bought 500)
-      -- client 2 buys 250 futures and sells 250 puts
-      ∷ post 2 0 (bought 250)
-      ∷ post 2 2 (sold 250)
-      -- client 3 buys 400 futures and sells 800 calls
-      ∷ post 3 0 (bought 400)
-      ∷ post 3 1 (sold 800)
+      -- client 2 buys 300 futures, 500 calls and 400 puts
+      ∷ post 2 0 (bought 300)
+      ∷ post 2 1 (bought 500)
+      ∷ post 2 2 (bought 400)
+      -- client 3 sells 400 puts and 400 calls
+      ∷ post 3 2 (sold 400)
+      ∷ post 3 1 (sold 400)
       ∷ [];
 }
 
--- a future counts in full, a call half a unit, and a put four tenths of one short
+-- a future counts in full, a call half a unit, and a put half of one short
 abbrev pub deltas : Source
-deltas = priced 930 10000 (pos 10000 ∷ pos 5000 ∷ neg_ℤ (pos 4000) ∷ [])
+deltas = priced 930 10000 (pos 10000 ∷ pos 5000 ∷ neg_ℤ (pos 5000) ∷ [])
 
 -- net, long and short of a client, in ten-thousandths of a unit
 abbrev pub reading : ℕ → ℤ × ℤ × ℤ
 reading client = reading_answer (outcome clients) stock deltas.delta client
 
 pub record FourClients : Type 0 where
-  -- 300 units net: 400 long and 100 short
-  pub client_0 : reading 0 ≡ (pos 3000000, pos 4000000, pos 1000000)
+  -- 300 units net, all long
+  pub client_0 : reading 0 ≡ (pos 3000000, pos 3000000, pos 0)
   -- 250 units net, all long
   pub client_1 : reading 1 ≡ (pos 2500000, pos 2500000, pos 0)
-  -- 350 units net, all long, as a put that is sold is
-  pub client_2 : reading 2 ≡ (pos 3500000, pos 3500000, pos 0)
-  -- none net: 400 long and 400 short
-  pub client_3 : reading 3 ≡ (pos 0, pos 4000000, pos 4000000)
+  -- 350 units net: 550 long, and 200 short, as a put that is bought is
+  pub client_2 : reading 2 ≡ (pos 3500000, pos 5500000, pos 2000000)
+  -- none net: 200 long, as a put that is sold is, and 200 short
+  pub client_3 : reading 3 ≡ (pos 0, pos 2000000, pos 2000000)
   -- market open interest is 900 units
   pub market_interest : interest_answer (outcome clients) stock deltas.delta ≡ 9000000
   -- notional open interest is 2,800: each contract counts in full, whether long or short

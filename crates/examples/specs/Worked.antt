@@ -1,6 +1,7 @@
 -- All examples together.
 use Rattle.examples.specs.Readings.{FourClients}
 use Rattle.examples.specs.IndexDay.{NetLimit, Settlement, Minutes}
+use Rattle.examples.specs.Premises.{LargerIsMet, BanIsMet, MarketIsMet}
 use Rattle.examples.specs.Ban.{MarketLimit, BanBounds, Violations, Charges, Misreadings}
 
 pub record WorkedExamples : Type 0 where
@@ -22,3 +23,9 @@ pub record WorkedExamples : Type 0 where
   pub charges : Charges
   -- where a rule is easily misread
   pub misreadings : Misreadings
+  -- the laws speak of something: two monitors of which the second has larger limits, or covers, and a breach less
+  pub larger : LargerIsMet
+  -- a ban of three closes, an entity that doesn't move in it, and one that does and is charged
+  pub ban : BanIsMet
+  -- and a close at which nobody is charged and the market shrinks
+  pub market : MarketIsMet
