@@ -1,0 +1,8 @@
+use Rattle.book.specs.Places.{Bracket}
+use Rattle.book.proofs.register.last_reached.Given as goal
+
+abbrev pub invariant-loop-size : goal.invariant-loop-size
+invariant-loop-size g l = Bracket l.rows l.key l.base l.size
+
+abbrev pub decreases-loop-size : goal.decreases-loop-size
+decreases-loop-size g l = l.size
