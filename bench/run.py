@@ -23,8 +23,8 @@ ROWS = {
     "posts-list": (4, 1_000_000, "post", 1.25),
     "index-grid": (500, 44, "call", 1.25),
     "index-list": (60, 44, "call", 1.25),
-    "close-grid": (5_000, 1, "close", 1.25),
-    "close-list": (600, 1, "close", 1.25),
+    "close-grid": (240, 34, "close", 1.25),
+    "close-list": (30, 34, "close", 1.25),
     "limit-charge": (10_000, 256, "pair", 1.25),
 }
 JOURNALS = {"journal-grid": ("grid 128 32", 2.0), "journal-list": ("list 128 32 4096", 2.0)}

@@ -143,6 +143,21 @@ fn index<B: Book>(mut book: B, rounds: u64) -> Measured {
     Measured { nanos: start.elapsed().as_nanos(), digest: black_box(digest.0) }
 }
 
+// A whole ban: the close that begins it, 32 closes that hold it, and the one that ends it.
+fn ban<B: Book>(monitor: &mut Monitor<B>, noise: &mut Noise, two: &Published, closing: &Published, digest: &mut Digest) {
+    digest.answer(monitor.set_limit(0, 1_000_000, &[0]));
+    digest.answer(monitor.close(0, two, closing));
+    for entity in 0..32 {
+        flow(monitor, noise, digest);
+        digest.answer(monitor.close(0, two, closing));
+        digest.note(monitor.violated(0, 4 * entity));
+        digest.note(monitor.charge(0, 4 * entity));
+        digest.note(u64::from(monitor.is_banned(0)));
+    }
+    digest.answer(monitor.set_limit(0, 1_000_000_000_000, &[0]));
+    digest.answer(monitor.close(0, two, closing));
+}
+
 fn close<B: Book>(mut book: B, rounds: u64) -> Measured {
     let mut noise = Noise::new(SEED);
     let contracts = contracts(&[Kind::Future, Kind::Call, Kind::Put]);
@@ -150,20 +165,12 @@ fn close<B: Book>(mut book: B, rounds: u64) -> Measured {
     let closing_rows = deltas(&mut noise, &contracts);
     fill(&mut book, &mut noise);
     let mut monitor = Monitor::open(&mut book, contracts, vec![Underlying::Stock], LIMITS);
-    let mut digest = Digest(0);
-    digest.answer(monitor.set_limit(0, 1_000_000, &[0]));
     let two = Published { minute: 840, price: 2_000_000, rows: &two_rows };
     let closing = Published { minute: 930, price: 2_100_000, rows: &closing_rows };
-    // The first close begins the ban.
-    digest.answer(monitor.close(0, &two, &closing));
+    let mut digest = Digest(0);
     let start = Instant::now();
-    for round in 0..rounds {
-        flow(&mut monitor, &mut noise, &mut digest);
-        digest.answer(monitor.close(0, &two, &closing));
-        let entity = (round % MOST_ENTITIES as u64) as usize;
-        digest.note(monitor.violated(0, entity));
-        digest.note(monitor.charge(0, entity));
-        digest.note(u64::from(monitor.is_banned(0)));
+    for _ in 0..rounds {
+        ban(&mut monitor, &mut noise, &two, &closing, &mut digest);
     }
     Measured { nanos: start.elapsed().as_nanos(), digest: black_box(digest.0) }
 }

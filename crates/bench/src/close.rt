@@ -8,7 +8,7 @@ use delta::published::Published;
 use monitor::state::Monitor;
 use std::array;
 use std::time::Instant;
-use terms::bounds::{CLOSE_MINUTE, MOST_CONTRACTS, MOST_ENTITIES, TWO_MINUTE};
+use terms::bounds::{CLOSE_MINUTE, MOST_CONTRACTS, TWO_MINUTE};
 use terms::kind::{Contract, Underlying};
 
 // What the last close did to an entity.
@@ -18,33 +18,23 @@ fn note_close<B: Book>(monitor: &Monitor<B>, digest: &mut Digest, entity: usize)
     digest.note(u64::from(monitor.is_banned(0)));
 }
 
-// The first close begins the ban, and the measured ones hold it.
-fn closes<B: Book>(
-    rt: &HostRuntime,
+// A whole ban: the close that begins it, 32 closes that hold it, and the one that ends it.
+fn ban<B: Book>(
     monitor: &mut Monitor<B>,
     noise: &mut Noise,
-    two: &Published<'_, '_>,
-    closing: &Published<'_, '_>,
-    rounds: u64,
-) -> anyhow::Result<Measured> {
-    let mut digest = Digest::new();
+    two: Published<'_, '_>,
+    closing: Published<'_, '_>,
+    digest: &mut Digest,
+) {
     digest.answer(monitor.set_limit(0, 1_000_000, &[0]));
-    digest.answer(monitor.close(0, two, closing));
-    let start = Instant::now(rt)?;
-    for round in 0..rounds {
-        flow(monitor, noise, &mut digest);
-        digest.answer(monitor.close(0, two, closing));
-        note_close(
-            monitor,
-            &mut digest,
-            (round % MOST_ENTITIES as u64) as usize,
-        );
+    digest.answer(monitor.close(0, &two, &closing));
+    for entity in 0..32usize {
+        flow(monitor, noise, digest);
+        digest.answer(monitor.close(0, &two, &closing));
+        note_close(monitor, digest, 4 * entity);
     }
-    let nanos = start.elapsed(rt)?.as_nanos();
-    Ok(Measured {
-        digest: digest.value,
-        nanos,
-    })
+    digest.answer(monitor.set_limit(0, 1_000_000_000_000, &[0]));
+    digest.answer(monitor.close(0, &two, &closing));
 }
 
 pub(crate) fn close<B: Book>(
@@ -62,5 +52,14 @@ pub(crate) fn close<B: Book>(
     let mut monitor = Monitor::open(book, &contracts, &[Underlying::Stock], LIMITS);
     let two = Published::new(TWO_MINUTE, 2_000_000, &two_rows);
     let closing = Published::new(CLOSE_MINUTE, 2_100_000, &closing_rows);
-    closes(rt, &mut monitor, &mut noise, &two, &closing, rounds)
+    let mut digest = Digest::new();
+    let start = Instant::now(rt)?;
+    for _ in 0..rounds {
+        ban(&mut monitor, &mut noise, two, closing, &mut digest);
+    }
+    let nanos = start.elapsed(rt)?.as_nanos();
+    Ok(Measured {
+        digest: digest.value,
+        nanos,
+    })
 }

@@ -1,5 +1,5 @@
 -- Rows in ascending order of key, as the entries of a map: a row at its place, put in, written over and taken out.
-use Rattle.std.proofs.Common.{◌≡◌, ℕ, zero, suc, ◌+◌, ◌-◌, ◌*◌, ◌/◌, ◌<◌, ◌≤◌, inl, inr, if◌then◌else◌, nat_le, Bool, true, false, cond, not, ◌&&◌, T, ◌≢◌, List, [], ◌∷◌, length, get_or, set, Some, None, Ok, Err, Result, MatchResult, sym, refl, ap, ◌∙◌, subst, arith}
+use Rattle.std.proofs.Common.{◌≡◌, ℕ, zero, suc, ◌+◌, ◌-◌, ◌*◌, ◌/◌, ◌<◌, ◌≤◌, inl, inr, if◌then◌else◌, nat_le, Bool, true, false, cond, not, ◌&&◌, T, ◌≢◌, List, [], ◌∷◌, length, get_or, set, take, drop, Some, None, Ok, Err, Result, MatchResult, sym, refl, ap, ◌∙◌, subst, arith}
 use Rattle.std.specs.List.{insert, remove as without}
 use Rattle.std.specs.Result.{result_ok}
 use Rattle.std.specs.Ordering.{nat_cmp, is_lt, eq_by_cmp}
@@ -7,7 +7,7 @@ use Rattle.std.specs.Cmp.{nat_cmp_total}
 use Rattle.std.specs.FinMap.{FinMap, entries, from_sorted, get, len, remove, empty, same_entries_map, entries-from_sorted, entries-insert, get-from_sorted, len-entries, same_map, get-remove, get-empty, nat_cmp-IsAntisymmetric}
 use Rattle.std.specs.FinMap as map
 use Rattle.std.specs.FinMap.Entries.{find, put, where_key, below_all, is_sorted-put, is_sorted-where_key, find-where_key}
-use Rattle.std.proofs.lemmas.List.{length-map, get_or_default}
+use Rattle.std.proofs.lemmas.List.{length-map, length-drop, get_or_default, get_or-drop, drop-drop, take_all}
 use Rattle.std.proofs.lemmas.Bool.{cases_lt}
 use Rattle.std.proofs.lemmas.Bool.Decides.{nat_tests}
 use Rattle.book.specs.declared.row.Row.{Row}
@@ -84,12 +84,19 @@ module _ {V : Type 0} where
     }
 
     -- the half that the key is in, where r tells whether the row in the middle is at or below it
-    pub halved : (r : ℕ) → r ≡ (if nat_le (get_or rows (base + size / 2) d).key key then 1 else 0) → Bracket rows key (base + size / 2 * r) (size - size / 2)
+    halved : (r : ℕ) → r ≡ (if nat_le (get_or rows (base + size / 2) d).key key then 1 else 0) → Bracket rows key (base + size / 2 * r) (size - size / 2)
     halved r h =
         elim (cases_lt key middle) [
           | inl f ↦ let z : r ≡ 0 = grind (arith, nat_tests) in subst (λ n. Bracket rows key n (size - size / 2)) (let q : base ≡ base + size / 2 * r = rw z (omega arith) in q) (lower f)
           | inr g ↦ let z : r ≡ 1 = grind (arith, nat_tests) in subst (λ n. Bracket rows key n (size - size / 2)) (let q : base + size / 2 ≡ base + size / 2 * r = rw z (omega arith) in q) (upper (omega arith))
         ]
+
+    -- the same, where the rows from the bracket's base on stand alone
+    pub halved_rest : (rest : List (Row V)) → rest ≡ drop base rows → (r : ℕ) → r ≡ (if nat_le (get_or rest (size / 2) d).key key then 1 else 0) → Bracket rows key (base + size / 2 * r) (size - size / 2) × (take (length rest - size / 2 * r) (drop (size / 2 * r) rest) ≡ drop (base + size / 2 * r) rows)
+    halved_rest rest e r h =
+        let read : get_or rest (size / 2) d ≡ get_or rows (base + size / 2) d = ap (λ xs. get_or xs (size / 2) d) e ∙ get_or-drop base rows (size / 2) d in
+        let long = length-drop (size / 2 * r) rest in
+        (halved r (h ∙ ap (λ (row : Row V). if nat_le row.key key then 1 else 0) read), take_all _ _ (omega (arith, long)) ∙ ap (drop (size / 2 * r)) e ∙ drop-drop (size / 2 * r) base rows)
 
   -- ---- a key that is missing
   module _ (key : ℕ) where

@@ -51,9 +51,13 @@ fn last_reached<V>(rows: &[Row<V>], key: u64) -> usize
 {
     let mut base = 0;
     let mut size = rows.len();
+    // The rows from base on, so that a step needs no sum to find its row.
+    let mut rest = rows;
     while size > 1 {
         let half = size / 2;
-        base += half * reached(rows[base + half].key, key);
+        let step = half * reached(rest[half].key, key);
+        rest = &rest[step..];
+        base += step;
         size -= half;
     }
     base
