@@ -12,20 +12,20 @@ import tempfile
 import time
 
 ROOT = os.path.dirname(os.path.dirname(os.path.abspath(__file__)))
-BEST_OF = 5
+BEST_OF = 15
 LINES = 1_000_000
 # The same processor as rt compiles for, and one unit of code, as rt makes.
 RUSTC = ["rustc", "--edition", "2024", "-C", "opt-level=3", "-C", "codegen-units=1", "-C", "target-cpu=x86-64-v2"]
 
 # A row's rounds, how many of what a round is counted as, and the most that it may take of plain Rust's time.
 ROWS = {
-    "posts-grid": (40, 1_000_000, "post", 1.25),
-    "posts-list": (4, 1_000_000, "post", 1.25),
-    "index-grid": (500, 44, "call", 1.25),
-    "index-list": (60, 44, "call", 1.25),
-    "close-grid": (240, 34, "close", 1.25),
-    "close-list": (30, 34, "close", 1.25),
-    "limit-charge": (10_000, 256, "pair", 1.25),
+    "posts-grid": (60, 1_000_000, "post", 1.25),
+    "posts-list": (3, 1_000_000, "post", 1.25),
+    "index-grid": (350, 44, "call", 1.25),
+    "index-list": (40, 44, "call", 1.25),
+    "close-grid": (400, 34, "close", 1.25),
+    "close-list": (50, 34, "close", 1.25),
+    "limit-charge": (20_000, 256, "pair", 1.25),
 }
 JOURNALS = {"journal-grid": ("grid 128 32", 2.0), "journal-list": ("list 128 32 4096", 2.0)}
 
