@@ -1,19 +1,17 @@
 -- Rows in ascending order of key, as the entries of a map: a row at its place, put in, written over and taken out.
-use Rattle.std.proofs.Common.{◌≡◌, ℕ, zero, suc, ◌<◌, Bool, true, false, cond, not, ◌&&◌, T, ◌≢◌, List, [], ◌∷◌, length, get_or, set, Some, None, Ok, Err, Result, MatchResult, sym, refl, ap, ◌∙◌, subst, arith}
+use Rattle.std.proofs.Common.{◌≡◌, ℕ, zero, suc, ◌+◌, ◌-◌, ◌*◌, ◌/◌, ◌<◌, ◌≤◌, inl, inr, if◌then◌else◌, nat_le, Bool, true, false, cond, not, ◌&&◌, T, ◌≢◌, List, [], ◌∷◌, length, get_or, set, take, drop, Some, None, Ok, Err, Result, MatchResult, sym, refl, ap, ◌∙◌, subst, arith}
 use Rattle.std.specs.List.{insert, remove as without}
-use Rattle.std.specs.List.Sorted.{IsSearchInRange, IsBinarySearchResult, IsNonDecreasingBy}
 use Rattle.std.specs.Result.{result_ok}
-use Rattle.std.specs.Ordering.{nat_cmp, is_lt, eq_by_cmp, ordering_index}
+use Rattle.std.specs.Ordering.{nat_cmp, is_lt, eq_by_cmp}
 use Rattle.std.specs.Cmp.{nat_cmp_total}
 use Rattle.std.specs.FinMap.{FinMap, entries, from_sorted, get, len, remove, empty, same_entries_map, entries-from_sorted, entries-insert, get-from_sorted, len-entries, same_map, get-remove, get-empty, nat_cmp-IsAntisymmetric}
 use Rattle.std.specs.FinMap as map
 use Rattle.std.specs.FinMap.Entries.{find, put, where_key, below_all, is_sorted-put, is_sorted-where_key, find-where_key}
-use Rattle.std.proofs.lemmas.Cmp.{ranked}
-use Rattle.std.proofs.lemmas.List.{length-map}
-use Rattle.std.proofs.lemmas.Bool.{cases_lt, cases_eq}
+use Rattle.std.proofs.lemmas.List.{length-map, length-drop, get_or_default, get_or-drop, drop-drop, take_all}
+use Rattle.std.proofs.lemmas.Bool.{cases_lt}
 use Rattle.std.proofs.lemmas.Bool.Decides.{nat_tests}
 use Rattle.book.specs.declared.row.Row.{Row}
-use Rattle.book.specs.Places.{pairs, Ascending, Found, Gap}
+use Rattle.book.specs.Places.{pairs, Ascending, Bracket, Found, Gap}
 
 both_parts : (a b : Bool) → T (a && b) → T a × T b
 both_parts true b h = (tt, h)
@@ -47,20 +45,58 @@ module _ {V : Type 0} where
   rises (r ∷ rows) up zero (suc j) d l m = above_at r.key rows j d (both_parts _ _ up).0 (omega arith)
   rises (r ∷ rows) up (suc i) (suc j) d l m = rises rows (both_parts _ _ up).1 i j d (omega arith) (omega arith)
 
-  -- what a binary search by key tells
-  pub searched : (rows : List (Row V)) (key : ℕ) → Ascending rows → (r : Result ℕ ℕ) → IsSearchInRange r (length rows) → IsBinarySearchResult (λ row. nat_cmp row.key key) rows r → MatchResult r (Found rows key) (Gap rows key)
-  searched rows key up (Ok at) w h = record { within = w; is = λ d. ranked _ key _ (sym (h d)) }
-  searched rows key up (Err at) w h = record {
-    within = w;
-    below = λ k d l. ranked _ key _ (sym ((h climbs).0 k d (omega arith) l));
-    above = λ k d l m. ranked _ key _ (sym ((h climbs).1 k d l m));
-  }
-    where
-      climbs : IsNonDecreasingBy (λ (row : Row V). ordering_index (nat_cmp row.key key)) rows
-      climbs i j d l m =
-          let up : (i ≢ j) → (get_or rows i d).key < (get_or rows j d).key = λ n. rises rows up i j d (omega arith) m in
-          let s : i ≡ j → (get_or rows i d).key ≡ (get_or rows j d).key = λ e. ap (λ k. (get_or rows k d).key) e in
-          grind (arith, nat_tests, cases_eq i j)
+  -- a bracket that is halved; d is any row, and stands for what is read past the end
+  module _ (rows : List (Row V)) (key base size : ℕ) (up : Ascending rows) (b : Bracket rows key base size) (d : Row V) (half : 1 < size) where
+    abbrev middle : ℕ
+    middle = (get_or rows (base + size / 2) d).key
+
+    inside : base + size / 2 < length rows
+    inside = let w = b.within in omega arith
+
+    here : (e : Row V) → middle ≡ (get_or rows (base + size / 2) e).key
+    here e = ap (λ (r : Row V). r.key) (get_or_default rows (base + size / 2) d e inside)
+
+    before : (k : ℕ) (e : Row V) → k < base + size / 2 → (get_or rows k e).key < middle
+    before k e l = let r = rises rows up k (base + size / 2) e l inside in let h = here e in omega arith
+
+    behind : (k : ℕ) (e : Row V) → base + size / 2 ≤ k → k < length rows → middle ≤ (get_or rows k e).key
+    behind k e l m =
+        let h = here e in
+        elim (cases_lt (base + size / 2) k) [
+          | inl f ↦ let r = rises rows up (base + size / 2) k e f m in omega arith
+          | inr g ↦ let s = ap (λ n. (get_or rows n e).key) (let q : base + size / 2 ≡ k = omega arith in q) in omega arith
+        ]
+
+    upper : middle ≤ key → Bracket rows key (base + size / 2) (size - size / 2)
+    upper h = record {
+      some = omega arith;
+      within = let w = b.within in omega arith;
+      below = λ k d l. let r = before k d l in omega arith;
+      above = λ k d l m. b.above k d (omega arith) m;
+    }
+
+    lower : key < middle → Bracket rows key base (size - size / 2)
+    lower h = record {
+      some = omega arith;
+      within = let w = b.within in omega arith;
+      below = b.below;
+      above = λ k d l m. let r = behind k d (omega arith) m in omega arith;
+    }
+
+    -- the half that the key is in, where r tells whether the row in the middle is at or below it
+    halved : (r : ℕ) → r ≡ (if nat_le (get_or rows (base + size / 2) d).key key then 1 else 0) → Bracket rows key (base + size / 2 * r) (size - size / 2)
+    halved r h =
+        elim (cases_lt key middle) [
+          | inl f ↦ let z : r ≡ 0 = grind (arith, nat_tests) in subst (λ n. Bracket rows key n (size - size / 2)) (let q : base ≡ base + size / 2 * r = rw z (omega arith) in q) (lower f)
+          | inr g ↦ let z : r ≡ 1 = grind (arith, nat_tests) in subst (λ n. Bracket rows key n (size - size / 2)) (let q : base + size / 2 ≡ base + size / 2 * r = rw z (omega arith) in q) (upper (omega arith))
+        ]
+
+    -- the same, where the rows from the bracket's base on stand alone
+    pub halved_rest : (rest : List (Row V)) → rest ≡ drop base rows → (r : ℕ) → r ≡ (if nat_le (get_or rest (size / 2) d).key key then 1 else 0) → Bracket rows key (base + size / 2 * r) (size - size / 2) × (take (length rest - size / 2 * r) (drop (size / 2 * r) rest) ≡ drop (base + size / 2 * r) rows)
+    halved_rest rest e r h =
+        let read : get_or rest (size / 2) d ≡ get_or rows (base + size / 2) d = ap (λ xs. get_or xs (size / 2) d) e ∙ get_or-drop base rows (size / 2) d in
+        let long = length-drop (size / 2 * r) rest in
+        (halved r (h ∙ ap (λ (row : Row V). if nat_le row.key key then 1 else 0) read), take_all _ _ (omega (arith, long)) ∙ ap (drop (size / 2 * r)) e ∙ drop-drop (size / 2 * r) base rows)
 
   -- ---- a key that is missing
   module _ (key : ℕ) where

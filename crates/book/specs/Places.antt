@@ -1,5 +1,5 @@
 -- The table that the places of a register hold.
-use Rattle.std.specs.Prelude.{◌≡◌, ℕ, ◌<◌, ◌≤◌, T, List, map, length, take, slice_index_or}
+use Rattle.std.specs.Prelude.{◌≡◌, ℕ, ◌+◌, ◌<◌, ◌≤◌, T, List, map, length, take, slice_index_or}
 use Rattle.std.specs.Ordering.{nat_cmp}
 use Rattle.std.specs.FinMap.{from_sorted, is_sorted}
 use Rattle.book.specs.declared.register.Register.TheInside.{Inside}
@@ -37,3 +37,10 @@ pub record Gap {V : Type 0} (rows : List (Row V)) (key at : ℕ) : Type 0 where
   pub within : at ≤ length rows
   pub below : (k : ℕ) (d : Row V) → k < at → (slice_index_or rows k d).key < key
   pub above : (k : ℕ) (d : Row V) → at ≤ k → k < length rows → key < (slice_index_or rows k d).key
+
+-- a key is nowhere but at one of some places: the rows before these are below it, and those from their end on are above
+pub record Bracket {V : Type 0} (rows : List (Row V)) (key base size : ℕ) : Type 0 where
+  pub some : 0 < size
+  pub within : base + size ≤ length rows
+  pub below : (k : ℕ) (d : Row V) → k < base → (slice_index_or rows k d).key < key
+  pub above : (k : ℕ) (d : Row V) → base + size ≤ k → k < length rows → key < (slice_index_or rows k d).key

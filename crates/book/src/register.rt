@@ -1,10 +1,11 @@
 // Rows in ascending order of key, in the first places of a lent slice.
-ghost use Rattle.std.specs.Prelude.{◌≡◌, ◌+◌, ◌-◌, ◌<◌, ◌≤◌, length, take, MatchResult};
+ghost use Rattle.std.specs.Prelude.{◌≡◌, ◌+◌, ◌-◌, ◌<◌, ◌≤◌, length, take, MatchResult, if◌then◌else◌, nat_le};
 ghost use Rattle.std.specs.List.{insert, remove as without};
-ghost use Rattle.book.specs.Places.{Ascending, Found, Gap};
+ghost use Rattle.book.specs.Places.{Ascending, Bracket, Found, Gap};
 ghost use Rattle.book.specs.Tables.{size, value_of, emptied, put_reply, putted, removed};
 
 use crate::row::Row;
+use std::cmp::Ordering;
 use std::marker::Model;
 use std::mem;
 use terms::refusal::Refusal;
@@ -31,12 +32,51 @@ impl<'a, V> Model for Register<'a, V> {
     ghost invariant = { Kept };
 }
 
+// One more than the largest key.
+const KEYS: u128 = 1 << 64;
+
+// 1 where a row's key is at or below another, else 0. By arithmetic: a search's comparisons can't be foretold, and a branch on each
+// makes it three times slower.
+fn reached(row: u64, key: u64) -> usize
+    ensures { result ≡ (if nat_le row key then 1 else 0) }
+{
+    ((KEYS + u128::from(key) - u128::from(row)) / KEYS) as usize
+}
+
+// The place of the last row whose key is at or below another, or the first place where there is none.
+fn last_reached<V>(rows: &[Row<V>], key: u64) -> usize
+    requires order { Ascending rows.now }
+    requires some { 0 < length rows.now }
+    ensures { Bracket rows.now key result 1 }
+{
+    let mut base = 0;
+    let mut size = rows.len();
+    // The rows from base on, so that a step needs no sum to find its row.
+    let mut rest = rows;
+    while size > 1 {
+        let half = size / 2;
+        let step = half * reached(rest[half].key, key);
+        rest = &rest[step..];
+        base += step;
+        size -= half;
+    }
+    base
+}
+
 // The place of a key, or the place that it would have.
 fn locate<V>(rows: &[Row<V>], key: u64) -> Result<usize, usize>
     requires { Ascending rows.now }
     ensures { MatchResult result (Found rows.now key) (Gap rows.now key) }
 {
-    rows.binary_search_by_key(&key, |row| row.key)
+    if rows.is_empty() {
+        return Err(0);
+    }
+    let at = last_reached(rows, key);
+    match rows[at].key.cmp(&key) {
+        Ordering::Equal => Ok(at),
+        Ordering::Less => Err(at + 1),
+        Ordering::Greater => Err(at),
+    }
 }
 
 // Puts a row in at a place of the first `len`, and moves the rows from there on up by one.

@@ -26,12 +26,15 @@ module _ {F A : Type 0} {g : Mut F (ℕ × Unit {0}) A} {f : F} (v : ℕ → A) 
             each xs n (i + 1) rest x k (omega arith) (omega arith)
       ]
 
+  pub item : (xs : List A) (n : ℕ) → IsFromFnResult g f xs n → (x : A) (k : ℕ) → k < n → get_or xs k x ≡ v k
+  item xs n h x k l = each xs n 0 h.each x k (omega arith) (omega arith)
+
   -- which is v, where v has x from the end on
   pub filled : (xs : List A) (n : ℕ) → IsFromFnResult g f xs n → (x : A) → ((k : ℕ) → n ≤ k → v k ≡ x) → (λ k. get_or xs k x) ≡ v
   filled xs n h x past =
       fun_ext (λ k.
       ⊎_elim
-      (λ l. each xs n 0 h.each x k (omega arith) (omega (arith, l)))
+      (λ l. item xs n h x k l)
       (λ l. get_or_past xs k x (omega (arith, h.long)) ∙ sym (past k l))
       (cases_lt k n))
 

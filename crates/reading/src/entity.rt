@@ -8,6 +8,7 @@ ghost use Rattle.reading.specs.Views.{weights_of};
 
 use crate::sheet::Sheet;
 use book::position::Holds;
+use std::array;
 use terms::bounds::MOST_CONTRACTS;
 
 // A quantity at a weight.
@@ -35,11 +36,11 @@ impl Sheet {
     pub fn reading<H: Holds>(&self, holder: &H, entity: usize) -> (i64, i64, i64)
         ensures { result ≡ reading_of (weights_of self.now) (quantity_of (H.held holder.now)) entity }
     {
-        // A `for` over the contracts' numbers: a fold would take the two sums apart and make them anew at each.
+        // All parts first: then the sums have no branch that hangs on a part's sign, and take several parts at once.
+        let parts: [i64; MOST_CONTRACTS] = array::from_fn(|c| self.part(holder, entity, c));
         let mut long = 0;
         let mut short = 0;
-        for c in 0..MOST_CONTRACTS {
-            let part = self.part(holder, entity, c);
+        for part in parts {
             long += part.max(0);
             short += (-part).max(0);
         }
