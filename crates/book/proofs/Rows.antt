@@ -1,5 +1,5 @@
 -- Rows in ascending order of key, as the entries of a map: a row at its place, put in, written over and taken out.
-use Rattle.std.proofs.Common.{◌≡◌, ℕ, zero, suc, ◌+◌, ◌-◌, ◌*◌, ◌/◌, ◌<◌, ◌≤◌, inl, inr, if◌then◌else◌, nat_le, Bool, true, false, cond, not, ◌&&◌, T, ◌≢◌, List, [], ◌∷◌, length, get_or, set, take, drop, Some, None, Ok, Err, Result, MatchResult, sym, refl, ap, ◌∙◌, subst, arith}
+use Rattle.std.proofs.Common.{◌≡◌, ℕ, zero, suc, ◌+◌, ◌-◌, ◌*◌, ◌/◌, ◌<◌, ◌≤◌, ◌⊎◌, inl, inr, if◌then◌else◌, nat_le, Bool, true, false, cond, not, ◌&&◌, T, ◌≢◌, List, [], ◌∷◌, length, get_or, set, take, drop, Some, None, Ok, Err, Result, MatchResult, sym, refl, ap, ◌∙◌, subst, arith}
 use Rattle.std.specs.List.{insert, remove as without}
 use Rattle.std.specs.Result.{result_ok}
 use Rattle.std.specs.Ordering.{nat_cmp, is_lt, eq_by_cmp}
@@ -45,58 +45,103 @@ module _ {V : Type 0} where
   rises (r ∷ rows) up zero (suc j) d l m = above_at r.key rows j d (both_parts _ _ up).0 (omega arith)
   rises (r ∷ rows) up (suc i) (suc j) d l m = rises rows (both_parts _ _ up).1 i j d (omega arith) (omega arith)
 
-  -- a bracket that is halved; d is any row, and stands for what is read past the end
-  module _ (rows : List (Row V)) (key base size : ℕ) (up : Ascending rows) (b : Bracket rows key base size) (d : Row V) (half : 1 < size) where
-    abbrev middle : ℕ
-    middle = (get_or rows (base + size / 2) d).key
+  -- a bracket that is cut, by the rows from its base on alone; d is any row, and stands for what is read past the end
+  module _ (rows : List (Row V)) (key base size : ℕ) (up : Ascending rows) (b : Bracket rows key base size) (rest : List (Row V)) (alone : rest ≡ drop base rows) (d : Row V) where
+    abbrev at : ℕ → ℕ
+    at p = (get_or rows (base + p) d).key
 
-    inside : base + size / 2 < length rows
-    inside = let w = b.within in omega arith
+    same : (k : ℕ) (e : Row V) → k < length rows → (get_or rows k d).key ≡ (get_or rows k e).key
+    same k e l = ap (λ (r : Row V). r.key) (get_or_default rows k d e l)
 
-    here : (e : Row V) → middle ≡ (get_or rows (base + size / 2) e).key
-    here e = ap (λ (r : Row V). r.key) (get_or_default rows (base + size / 2) d e inside)
+    read : (p : ℕ) (e : Row V) → p < size → (get_or rest p e).key ≡ at p
+    read p e l =
+        let w = b.within in
+        ap (λ xs. (get_or xs p e).key) alone ∙ ap (λ (r : Row V). r.key) (get_or-drop base rows p e) ∙ sym (same (base + p) e (omega arith))
 
-    before : (k : ℕ) (e : Row V) → k < base + size / 2 → (get_or rows k e).key < middle
-    before k e l = let r = rises rows up k (base + size / 2) e l inside in let h = here e in omega arith
+    climbs : (p q : ℕ) → p < q → q < size → at p < at q
+    climbs p q l m = let w = b.within in rises rows up (base + p) (base + q) d (omega arith) (omega arith)
 
-    behind : (k : ℕ) (e : Row V) → base + size / 2 ≤ k → k < length rows → middle ≤ (get_or rows k e).key
-    behind k e l m =
-        let h = here e in
-        elim (cases_lt (base + size / 2) k) [
-          | inl f ↦ let r = rises rows up (base + size / 2) k e f m in omega arith
-          | inr g ↦ let s = ap (λ n. (get_or rows n e).key) (let q : base + size / 2 ≡ k = omega arith in q) in omega arith
-        ]
+    -- to s places from p on: the key is no lower than the row at p, and below the one at top
+    cut : (p s top : ℕ) → 0 < s → p + s ≤ size → top ≤ p + s → (0 < p → at p ≤ key) → (top ≡ size) ⊎ (top < size) × (key < at top) → Bracket rows key (base + p) s
+    cut p s top some fits less low high =
+        let w = b.within in
+        record {
+          some = some;
+          within = omega arith;
+          below = λ k f l.
+              elim (cases_lt k base) [
+                | inl m ↦ b.below k f m
+                | inr m ↦
+                    let h = low (omega arith) in
+                    let r = rises rows up k (base + p) f l (omega arith) in
+                    let t = same (base + p) f (omega arith) in
+                    omega arith
+              ];
+          above = λ k f l m.
+              elim high [
+                | inl h ↦ b.above k f (omega arith) m
+                | inr h ↦
+                    let i = h.0 in
+                    let j = h.1 in
+                    let t = same (base + top) f (omega arith) in
+                    elim (cases_lt (base + top) k) [
+                      | inl n ↦ let r = rises rows up (base + top) k f n m in omega arith
+                      | inr n ↦ let u = ap (λ n. (get_or rows n f).key) (let q : base + top ≡ k = omega arith in q) in omega arith
+                    ]
+              ];
+        }
 
-    upper : middle ≤ key → Bracket rows key (base + size / 2) (size - size / 2)
-    upper h = record {
-      some = omega arith;
-      within = let w = b.within in omega arith;
-      below = λ k d l. let r = before k d l in omega arith;
-      above = λ k d l m. b.above k d (omega arith) m;
-    }
-
-    lower : key < middle → Bracket rows key base (size - size / 2)
-    lower h = record {
-      some = omega arith;
-      within = let w = b.within in omega arith;
-      below = b.below;
-      above = λ k d l m. let r = behind k d (omega arith) m in omega arith;
-    }
+    -- a step to p, and what is then left alone
+    stepped : (p n s : ℕ) → p ≡ n → Bracket rows key (base + p) s → Bracket rows key (base + n) s × (take (length rest - n) (drop n rest) ≡ drop (base + n) rows)
+    stepped p n s e c =
+        let long = length-drop n rest in
+        (subst (λ n. Bracket rows key (base + n) s) e c, take_all _ _ (omega (arith, long)) ∙ ap (drop n) alone ∙ drop-drop n base rows)
 
     -- the half that the key is in, where r tells whether the row in the middle is at or below it
-    halved : (r : ℕ) → r ≡ (if nat_le (get_or rows (base + size / 2) d).key key then 1 else 0) → Bracket rows key (base + size / 2 * r) (size - size / 2)
-    halved r h =
-        elim (cases_lt key middle) [
-          | inl f ↦ let z : r ≡ 0 = grind (arith, nat_tests) in subst (λ n. Bracket rows key n (size - size / 2)) (let q : base ≡ base + size / 2 * r = rw z (omega arith) in q) (lower f)
-          | inr g ↦ let z : r ≡ 1 = grind (arith, nat_tests) in subst (λ n. Bracket rows key n (size - size / 2)) (let q : base + size / 2 ≡ base + size / 2 * r = rw z (omega arith) in q) (upper (omega arith))
+    pub halved : (e : Row V) → 1 < size → (r : ℕ) → r ≡ (if nat_le (get_or rest (size / 2) e).key key then 1 else 0) → Bracket rows key (base + size / 2 * r) (size - size / 2) × (take (length rest - size / 2 * r) (drop (size / 2 * r) rest) ≡ drop (base + size / 2 * r) rows)
+    halved e more r h =
+        let half = size / 2 in
+        let i = read half e (omega arith) in
+        elim (cases_lt key (at half)) [
+          | inl f ↦
+              let z : r ≡ 0 = grind (arith, nat_tests) in
+              stepped 0 _ _ (rw z (omega arith)) (cut 0 (size - half) half (omega arith) (omega arith) (omega arith) (λ l. absurd (omega arith)) (inr (omega arith, f)))
+          | inr g ↦
+              let z : r ≡ 1 = grind (arith, nat_tests) in
+              stepped half _ _ (rw z (omega arith)) (cut half (size - half) size (omega arith) (omega arith) (omega arith) (λ l. omega arith) (inl refl))
         ]
 
-    -- the same, where the rows from the bracket's base on stand alone
-    pub halved_rest : (rest : List (Row V)) → rest ≡ drop base rows → (r : ℕ) → r ≡ (if nat_le (get_or rest (size / 2) d).key key then 1 else 0) → Bracket rows key (base + size / 2 * r) (size - size / 2) × (take (length rest - size / 2 * r) (drop (size / 2 * r) rest) ≡ drop (base + size / 2 * r) rows)
-    halved_rest rest e r h =
-        let read : get_or rest (size / 2) d ≡ get_or rows (base + size / 2) d = ap (λ xs. get_or xs (size / 2) d) e ∙ get_or-drop base rows (size / 2) d in
-        let long = length-drop (size / 2 * r) rest in
-        (halved r (h ∙ ap (λ (row : Row V). if nat_le row.key key then 1 else 0) read), take_all _ _ (omega (arith, long)) ∙ ap (drop (size / 2 * r)) e ∙ drop-drop (size / 2 * r) base rows)
+    -- the quarter that it is in, where x, y and z tell the same of the rows between them; the last quarter has what is over
+    module _ (e f g : Row V) (more : 3 < size) where
+      pub quartered : (x y z : ℕ) → x ≡ (if nat_le (get_or rest (size / 4) e).key key then 1 else 0) → y ≡ (if nat_le (get_or rest (2 * (size / 4)) f).key key then 1 else 0) → z ≡ (if nat_le (get_or rest (3 * (size / 4)) g).key key then 1 else 0) → Bracket rows key (base + size / 4 * (x + y + z)) (size - 3 * (size / 4)) × (take (length rest - size / 4 * (x + y + z)) (drop (size / 4 * (x + y + z)) rest) ≡ drop (base + size / 4 * (x + y + z)) rows)
+      quartered x y z h i j =
+          let q = size / 4 in
+          let s = size - 3 * q in
+          let a = read q e (omega arith) in
+          let b = read (2 * q) f (omega arith) in
+          let c = read (3 * q) g (omega arith) in
+          let l = climbs q (2 * q) (omega arith) (omega arith) in
+          let m = climbs (2 * q) (3 * q) (omega arith) (omega arith) in
+          elim (cases_lt key (at q)) [
+            | inl n ↦
+                let t : x + y + z ≡ 0 = grind (arith, nat_tests) in
+                stepped 0 _ _ (rw t (omega arith)) (cut 0 s q (omega arith) (omega arith) (omega arith) (λ l. absurd (omega arith)) (inr (omega arith, n)))
+            | inr n ↦
+                elim (cases_lt key (at (2 * q))) [
+                  | inl o ↦
+                      let t : x + y + z ≡ 1 = grind (arith, nat_tests) in
+                      stepped q _ _ (rw t (omega arith)) (cut q s (2 * q) (omega arith) (omega arith) (omega arith) (λ l. omega arith) (inr (omega arith, o)))
+                  | inr o ↦
+                      elim (cases_lt key (at (3 * q))) [
+                        | inl p ↦
+                            let t : x + y + z ≡ 2 = grind (arith, nat_tests) in
+                            stepped (2 * q) _ _ (rw t (omega arith)) (cut (2 * q) s (3 * q) (omega arith) (omega arith) (omega arith) (λ l. omega arith) (inr (omega arith, p)))
+                        | inr p ↦
+                            let t : x + y + z ≡ 3 = grind (arith, nat_tests) in
+                            stepped (3 * q) _ _ (rw t (omega arith)) (cut (3 * q) s size (omega arith) (omega arith) (omega arith) (λ l. omega arith) (inl refl))
+                      ]
+                ]
+          ]
 
   -- ---- a key that is missing
   module _ (key : ℕ) where

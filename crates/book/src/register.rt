@@ -51,9 +51,19 @@ fn last_reached<V>(rows: &[Row<V>], key: u64) -> usize
 {
     let mut base = 0;
     let mut size = rows.len();
-    // The rows from base on, so that a step needs no sum to find its row.
+    // The rows from base on, so that a step needs no sum to find its row. Three rows at a time are loaded side by side.
     let mut rest = rows;
-    while size > 1 {
+    'quarters: while size > 3 {
+        let quarter = size / 4;
+        let passed = reached(rest[quarter].key, key)
+            + reached(rest[2 * quarter].key, key)
+            + reached(rest[3 * quarter].key, key);
+        let step = quarter * passed;
+        rest = &rest[step..];
+        base += step;
+        size -= 3 * quarter;
+    }
+    'halves: while size > 1 {
         let half = size / 2;
         let step = half * reached(rest[half].key, key);
         rest = &rest[step..];
