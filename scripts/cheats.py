@@ -1,71 +1,88 @@
 #!/usr/bin/env python3
-"""Makes the model cheat, one definition at a time, and says which laws over runs no longer have their proofs.
+"""Makes the rules cheat, code and definitions together, and says which laws over runs lose their proofs.
 
 usage: cheats.py [WORD]      (only the cheats whose name has the word)
 
-Where no law fails, the definition alone stands against the cheat: a reader of specs/ must see it. Work in a copy.
+Each cheat is edits of code and of the definition that its contract cites, so that the crate below still checks: only a law
+stands against it. Where no law fails, the definition alone does, and a reader of specs/ must see it. Work in a copy.
 """
 import re
 import subprocess
 import sys
 
-MARKS = "crates/index/specs/Marks.antt"
-CALLS = "crates/index/specs/Calls.antt"
-CLOSE = "crates/stock/specs/Close.antt"
+MARKS, MARK = "crates/index/specs/Marks.antt", "crates/index/src/mark.rt"
+CALLS, JUDGES = "crates/index/specs/Calls.antt", "crates/index/src/calls.rt"
+DAYS, DAY = "crates/index/specs/Days.antt", "crates/index/src/day.rt"
 STEP = "crates/model/specs/Calls.antt"
 INDICES = "crates/model/specs/Indices.antt"
-STATE = "crates/model/specs/State.antt"
+CHARGE, CHARGES = "crates/rules/specs/Charge.antt", "crates/rules/src/charge.rt"
 
-CHEATS = [
-    ("sights nobody", MARKS, "record { sighted = over; count", "record { sighted = false; count"),
-    ("sights everybody", MARKS, "record { sighted = over; count", "record { sighted = true; count"),
-    ("never counts at a cure", MARKS, "cured over value r = sighted false (finished (r.sighted && over) value r)", "cured over value r = sighted false r"),
-    ("counts at a cure without a sighting", MARKS, "(finished (r.sighted && over) value r)", "(finished over value r)"),
-    ("stays sighted after a cure", MARKS, "cured over value r = sighted false (", "cured over value r = sighted r.sighted ("),
-    ("never counts at the final snapshot", MARKS, "finished over value r = cond over (provisional value r) r", "finished over value r = r"),
-    ("counts twice", MARKS, "count = one_more r.count", "count = one_more (one_more r.count)"),
-    ("keeps the last value, and not the largest", MARKS, "largest = max r.largest value", "largest = value"),
-    ("over at the limit", MARKS, "is_over amount value = nat_lt (amount * per_paisa) value", "is_over amount value = not (nat_lt value (amount * per_paisa))"),
-    ("keeps nothing at a settlement", MARKS, "kept = cond final (Some r.largest) None }", "kept = None }"),
-    ("keeps what is not final", MARKS, "kept = cond final (Some r.largest) None }", "kept = Some r.largest }"),
-    ("keeps the day's count beyond the settlement", MARKS, "settled final r = record { sighted = false; count = 0;", "settled final r = record { sighted = false; count = r.count;"),
-    ("keeps the day's largest value beyond the settlement", MARKS, "largest = 0; kept = cond", "largest = r.largest; kept = cond"),
-    ("settles without the cover", CALLS, "final_by l c e m row = is_final (limit_for l m) (c e (side_of m)) row", "final_by l c e m row = is_final (limit_for l m) 0 row"),
-    ("settles with another entity's cover", CALLS, "is_final (limit_for l m) (c e (side_of m)) row", "is_final (limit_for l m) (c 0 (side_of m)) row"),
-    ("gross against the net limit", MARKS, "limit_for l GrossLong = l.gross", "limit_for l GrossLong = l.net"),
-    ("forgets the marks at another call", STEP, "remarked s other = s.marks", "remarked s other = λ u e m. no_row"),
-    ("marks another index", INDICES, "at u (swept t.listing.entities (judged_by", "at 0 (swept t.listing.entities (judged_by"),
-    ("a cure that owes another", "crates/index/specs/Days.antt", "record { taken = d.taken; last = Some minute; due = Snapshot }", "record { taken = d.taken; last = Some minute; due = Cure }"),
-    ("a regular snapshot that owes nothing", "crates/index/specs/Days.antt", "owed_by Regular = Cure", "owed_by Regular = Snapshot"),
-    ("the day is not cleared", INDICES, "cleared_day s u = with_day s u no_day", "cleared_day s u = s"),
-    ("answers nothing at a cure", STEP, "number s (cure u d) = pos (watched_count rule.Cure s.terms s.ledger.book.at s.marks u d)", "number s (cure u d) = pos 0"),
-    ("answers nothing at a settlement", STEP, "number s (settle u c) = pos (final_count s.terms s.marks u c)", "number s (settle u c) = pos 0"),
-    ("limits refuse a close", STEP, "of_call l s (set_limit u f ds) = of_limit l u f ds", "of_call l s (set_limit u f ds) = Err Pair"),
-    ("never charges", CLOSE, "    cond (nat_lt e n && judges turn) (charge_of (violated_by w base book e) price) 0", "    0"),
-    ("charges everybody in a ban", CLOSE, "(charge_of (violated_by w base book e) price)", "(charge_of price price)"),
-    ("moves base after a violation", CLOSE, "new_pair Holds ok q b = cond ok q b", "new_pair Holds ok q b = q"),
-    ("begins a ban with an empty base", CLOSE, "new_pair Begins ok q b = q", "new_pair Begins ok q b = pos 0"),
-    ("never ends a ban", CLOSE, "in_force Ends = false", "in_force Ends = true"),
-    ("a declined call posts", STEP, "decided (Err why) n old new = (Err why, old)", "decided (Err why) n old new = (Err why, new)"),
-    ("a limit setting forgets the book", "crates/model/specs/Stocks.antt", "limited s u limit = record {\n  book = s.book;", "limited s u limit = record {\n  book = posted s.book 0 0 (pos 1);"),
-]
+CHEATS = {
+    "sights nobody": [
+        (MARKS, "record { sighted = over; count", "record { sighted = false; count"),
+        (MARK, "        self.sighted = is_over(limit, value);\n        self.sighted\n", "        self.sighted = false;\n        is_over(limit, value)\n")],
+    "never counts at a cure": [
+        (MARKS, "cured over value r = sighted false (finished (r.sighted && over) value r)", "cured over value r = sighted false r"),
+        (MARK, "self.sighted && self.finish(limit, value)", "self.sighted && is_over(limit, value)")],
+    "stays sighted after a cure": [
+        (MARKS, "cured over value r = sighted false (finished (r.sighted && over) value r)", "cured over value r = finished (r.sighted && over) value r"),
+        (MARK, "        self.sighted = false;\n        broken\n", "        broken\n")],
+    "never counts at the final snapshot, nor at a cure": [
+        (MARKS, "finished over value r = cond over (provisional value r) r", "finished over value r = r"),
+        (MARK, "            self.make_provisional(value);\n", "")],
+    "keeps the last value, and not the largest": [
+        (MARKS, "largest = max r.largest value", "largest = value"),
+        (MARK, "self.largest.max(value)", "value")],
+    "keeps nothing at a settlement": [
+        (MARKS, "kept = cond final (Some r.largest) None }", "kept = None }"),
+        (MARK, "kept: found.then_some(self.largest)", "kept: None")],
+    "keeps the smallest number for every final breach": [
+        (MARKS, "kept = cond final (Some r.largest) None }", "kept = cond final (Some 0) None }"),
+        (MARK, "kept: found.then_some(self.largest)", "kept: found.then_some(0)")],
+    "settles without the cover": [
+        (CALLS, "final_by l c e m row = is_final (limit_for l m) (c e (side_of m)) row", "final_by l c e m row = is_final (limit_for l m) 0 row"),
+        (JUDGES, "            self.cover.cover(entity, self.index, mark.side()),\n", "            0,\n")],
+    "gross against the net limit": [
+        (MARKS, "limit_for l GrossLong = l.gross\nlimit_for l GrossShort = l.gross", "limit_for l GrossLong = l.net\nlimit_for l GrossShort = l.net"),
+        (MARK, "Mark::GrossLong | Mark::GrossShort => limits.gross", "Mark::GrossLong | Mark::GrossShort => limits.net")],
+    "a regular snapshot that owes nothing": [
+        (DAYS, "owed_by Regular = Cure", "owed_by Regular = Snapshot"),
+        (DAY, "Round::Regular => Due::Cure", "Round::Regular => Due::Snapshot")],
+    "a cure sixteen minutes later": [
+        (DAYS, "is_cure_time (Some last) minute = minute == last + cure_minutes", "is_cure_time (Some last) minute = minute == last + 16"),
+        (DAY, "minute.checked_sub(CURE_MINUTES) == Some(last)", "minute.checked_sub(16) == Some(last)")],
+    "a day of any length is settled": [
+        (DAYS, "is_short d = nat_lt d.taken snapshots_least || not (is_complete d.due)", "is_short d = not (is_complete d.due)"),
+        (DAY, "self.taken < SNAPSHOTS_LEAST || self.due != Due::Settlement", "self.due != Due::Settlement")],
+    "forgets the marks at another call": [(STEP, "remarked s other = s.marks", "remarked s other = λ u e m. no_row")],
+    "the day is not cleared": [(INDICES, "cleared_day s u = with_day s u no_day", "cleared_day s u = s")],
+    "answers nothing at a cure": [(STEP, "number s (cure u d) = pos (watched_count rule.Cure s.terms s.ledger.book.at s.marks u d)", "number s (cure u d) = pos 0")],
+    "answers nothing at a settlement": [(STEP, "number s (settle u c) = pos (final_count s.terms s.marks u c)", "number s (settle u c) = pos 0")],
+    "a declined call takes effect": [(STEP, "decided (Err why) n old new = (Err why, old)", "decided (Err why) n old new = (Err why, new)")],
+    "declines every snapshot": [(INDICES, "(not (awaits_snapshot day.due), Turn)", "(true, Turn)")],
+}
 
 
 def main():
     word = sys.argv[1] if len(sys.argv) > 1 else ""
-    for name, path, old, new in CHEATS:
-        if old is None or word not in name:
+    for name, edits in CHEATS.items():
+        if word not in name:
             continue
-        kept = open(path).read()
-        assert kept.count(old) == 1, (name, kept.count(old))
-        open(path, "w").write(kept.replace(old, new))
+        kept = {path: open(path).read() for path, _, _ in edits}
+        for path, old, new in edits:
+            text = open(path).read()
+            assert text.count(old) == 1, (name, old, text.count(old))
+            open(path, "w").write(text.replace(old, new))
         try:
             ran = subprocess.run(["rt", "check"], cwd="crates/model", capture_output=True)
         finally:
-            open(path, "w").write(kept)
+            for path, text in kept.items():
+                open(path, "w").write(text)
         out = (ran.stdout + ran.stderr).decode(errors="replace")
+        below = "crate model:" not in out
         failed = sorted(set(re.findall(r"proofs/(\w+)\.antt:\d+:\d+: error: `(\w+)`", out)))
-        print(name, "|", "no law" if not failed else ", ".join(f"{m}.{d}" for m, d in failed[:4]), flush=True)
+        told = "the crate below no longer checks" if below else "no law" if not failed else ", ".join(f"{m}.{d}" for m, d in failed[:5])
+        print(f"{name} | {told}", flush=True)
 
 
 if __name__ == "__main__":
