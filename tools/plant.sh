@@ -1,7 +1,7 @@
 #!/bin/sh
 # Applies each edit of a crate's must-fail folder in turn to the working tree, checks the crate, restores it, and says
 # whether the edit was refused and by what. Faster than the gate, which proves each from nothing; not the verdict.
-# usage: scripts/plant.sh CRATE [EDIT...]
+# usage: tools/plant.sh CRATE [EDIT...]
 set -u
 cd "$(dirname "$0")/.." || exit 2
 crate=$1
