@@ -1,8 +1,9 @@
 #!/usr/bin/env python3
 """Plants bugs in the code of crates, one at a time, and says which of them the check still proves.
 
-usage: mutate.py OUTPUT CRATE...      (OUTPUT gets a line for each bug: crate, file, line, verdict, old, new)
-       mutate.py --list CRATE...      (only lists them)
+usage: mutate.py OUTPUT CRATE[:N]...      (every Nth bug of the crate, or all; OUTPUT gets a line for each: crate, file, line,
+                                           verdict, old, new)
+       mutate.py --list CRATE...          (only counts them)
 
 A bug is a changed operator, constant, argument order or variant, or a dropped statement, on one line of a function's body.
 Verdicts: refused (a fact fails), unread (it doesn't compile), PROVED (a contract that is too weak, or no bug at all).
@@ -105,8 +106,9 @@ def main():
             print(crate, sum(1 for _ in bugs(crate)))
         return
     with open(sys.argv[1], "a") as out:
-        for crate in sys.argv[2:]:
-            for path, n, lines, new in bugs(crate):
+        for word in sys.argv[2:]:
+            crate, _, every = word.partition(":")
+            for path, n, lines, new in list(bugs(crate))[:: int(every or 1)]:
                 kept = "\n".join(lines)
                 open(path, "w").write("\n".join(lines[:n] + [new.rstrip("\n")] + lines[n + 1:]))
                 try:
