@@ -4,7 +4,8 @@
 usage: cheats.py [WORD]      (only the cheats whose name has the word)
 
 Each cheat is edits of code and of the definition that its contract cites, so that the crate below still checks: only a law
-stands against it. Where no law fails, the definition alone does, and a reader of specs/ must see it. Work in a copy.
+stands against it. A law that loses its proof may be true still: look whether it is. Where no law fails, the definition alone
+stands against the cheat, and a reader of specs/ must see it. Work in a copy.
 """
 import re
 import subprocess

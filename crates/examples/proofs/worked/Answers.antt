@@ -4,8 +4,8 @@ use Rattle.examples.proofs.Ban.{market_limit, ban_bounds, violations, charges, m
 use Rattle.examples.proofs.Premises.{larger_is_met, ban_is_met, market_is_met}
 use Rattle.examples.proofs.worked.Goals as goal
 
-pub returns : goal.returns
-returns c = record {
+pub returns-clause-examples : goal.returns-clause-examples
+returns-clause-examples c = record {
   four_clients = four_clients;
   net_limit = net_limit;
   settlement = settlement;
