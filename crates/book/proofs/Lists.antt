@@ -14,7 +14,8 @@ use Rattle.terms.specs.declared.refusal.Refusal.{Refusal}
 use Rattle.terms.specs.declared.refusal.Refusal.TheVariants.{Pair, Full}
 use Rattle.book.specs.Tables.{Table, size, value_of, taken, put_reply, putted, removed, emptied}
 use Rattle.book.specs.Holding.{Holding, inside, is_zero, small, nonzeros, count, blocked, reply, put, with_pair, posted, place_of, sum_of}
-use Rattle.book.specs.Listed.{amount, proper, spread, listed, listed_count, Stored, new_list}
+use Rattle.book.specs.Holding.{or_zero}
+use Rattle.book.specs.Listed.{proper, spread, listed, listed_count, Stored, new_list}
 use Rattle.book.specs.Soundness.{bit}
 use Rattle.book.proofs.Counts.{nonzeros_none, nonzeros_written}
 use Rattle.book.proofs.Grids.{same_place, placed_some, placed_none}
@@ -37,13 +38,13 @@ module _ (e c : ℕ) (f : ℕ → Option ℤ) (i j key : ℕ) (p : Some key ≡ 
       let t = placed_some e c i j key p in
       and_from (ltb i e) (ltb j c) (lt-ltb i e t.0) (lt-ltb j c t.1)
 
-  spread_at : amount (f key) ≡ spread e c f i j
+  spread_at : or_zero (f key) ≡ spread e c f i j
   spread_at =
       let t = placed_some e c i j key p in
-      ap (λ n. amount (f n)) t.2 ∙ sym (cond-true (ltb i e && ltb j c) _ _ spread_inside)
+      ap (λ n. or_zero (f n)) t.2 ∙ sym (cond-true (ltb i e && ltb j c) _ _ spread_inside)
 
   -- a row that changes changes its pair
-  spread_put : (w : Option ℤ) (k o : ℕ) → spread e c (update eqb f key w) k o ≡ put (spread e c f) i j (amount w) k o
+  spread_put : (w : Option ℤ) (k o : ℕ) → spread e c (update eqb f key w) k o ≡ put (spread e c f) i j (or_zero w) k o
   spread_put w k o =
       ⊎_elim
       (λ t.
@@ -52,12 +53,12 @@ module _ (e c : ℕ) (f : ℕ → Option ℤ) (i j key : ℕ) (p : Some key ≡ 
       (λ t. other t ∙ sym (cond-false (eqb k i && eqb o j) _ _ t))
       (cases_Bool (eqb k i && eqb o j))
     where
-      here : k ≡ i → o ≡ j → spread e c (update eqb f key w) k o ≡ amount w
+      here : k ≡ i → o ≡ j → spread e c (update eqb f key w) k o ≡ or_zero w
       here u v =
           let q = placed_some e c i j key p in
           ap₂ (spread e c (update eqb f key w)) u v
           ∙ (cond-true (ltb i e && ltb j c) _ _ spread_inside
-          ∙ ap amount (ap (update eqb f key w) (sym q.2) ∙ update_here f key w))
+          ∙ ap or_zero (ap (update eqb f key w) (sym q.2) ∙ update_here f key w))
 
       far : (eqb k i && eqb o j) ≡ false → o < c → k * c + o ≢ key
       far t l s =
@@ -69,17 +70,17 @@ module _ (e c : ℕ) (f : ℕ → Option ℤ) (i j key : ℕ) (p : Some key ≡ 
       other t =
           ⊎_elim
           (λ d.
-          ap (λ x. cond (ltb k e && ltb o c) (amount x) (pos 0))
+          ap (λ x. cond (ltb k e && ltb o c) (or_zero x) (pos 0))
           (update_apart f key w (k * c + o) (far t (ltb-true o c (and_parts (ltb k e) (ltb o c) d).1))))
           (λ d. cond-false (ltb k e && ltb o c) _ _ d ∙ sym (cond-false (ltb k e && ltb o c) _ _ d))
           (cases_Bool (ltb k e && ltb o c))
 
   -- and the count by itself
-  spread_count : (w : Option ℤ) → nonzeros (spread e c (update eqb f key w)) e c + bit (amount (f key)) ≡ nonzeros (spread e c f) e c + bit (amount w)
+  spread_count : (w : Option ℤ) → nonzeros (spread e c (update eqb f key w)) e c + bit (or_zero (f key)) ≡ nonzeros (spread e c f) e c + bit (or_zero w)
   spread_count w =
       let q = placed_some e c i j key p in
       ap₂ (λ g x. nonzeros g e c + bit x) (fun_ext (λ k. fun_ext (λ o. spread_put w k o))) spread_at
-      ∙ nonzeros_written (spread e c f) i j (amount w) e c q.0 q.1
+      ∙ nonzeros_written (spread e c f) i j (or_zero w) e c q.0 q.1
 
 -- ---- rows that may be stored
 right : (a b : Bool) → T (a && not b) → b ≡ false
@@ -87,7 +88,7 @@ right true true h = absurd h
 right true false h = refl
 right false b h = absurd h
 
-proper_bit : (o : Option ℤ) → T (proper o) → bit (amount o) ≡ cond (is_some o) 1 0
+proper_bit : (o : Option ℤ) → T (proper o) → bit (or_zero o) ≡ cond (is_some o) 1 0
 proper_bit None h = refl
 proper_bit (Some z) h = cond-false (is_zero z) 0 1 (right (small z) (is_zero z) h)
 
@@ -136,7 +137,7 @@ module _ (e c : ℕ) (t : Table ℤ) (s : Stored e c t) (i j key : ℕ) (p : Som
   abbrev book : Holding
   book = listed e c t
 
-  pub old_is : amount (value_of t key) ≡ book.at i j
+  pub old_is : or_zero (value_of t key) ≡ book.at i j
   unfolding listed
   old_is = spread_at e c (value_of t) i j key p
 
@@ -156,10 +157,10 @@ module _ (e c : ℕ) (t : Table ℤ) (s : Stored e c t) (i j key : ℕ) (p : Som
     room = let r = s.room in let l = len-remove nat_cmp_total t.rows key in fewer (value_of t key) (size (removed t key)) l r;
   })
     where
-      count_out : listed_count e c (removed t key) + bit (amount (value_of t key)) ≡ listed_count e c t + 0
-      count_out = ap (λ f. nonzeros (spread e c f) e c + bit (amount (value_of t key))) (gets_removed t key) ∙ spread_count e c (value_of t) i j key p None
+      count_out : listed_count e c (removed t key) + bit (or_zero (value_of t key)) ≡ listed_count e c t + 0
+      count_out = ap (λ f. nonzeros (spread e c f) e c + bit (or_zero (value_of t key))) (gets_removed t key) ∙ spread_count e c (value_of t) i j key p None
 
-      by_some : (o : Option ℤ) (m n : ℕ) → m ≡ cond (is_some o) (size t - 1) (size t) → n + bit (amount o) ≡ listed_count e c t + 0 → bit (amount o) ≡ cond (is_some o) 1 0 → m ≡ n
+      by_some : (o : Option ℤ) (m n : ℕ) → m ≡ cond (is_some o) (size t - 1) (size t) → n + bit (or_zero o) ≡ listed_count e c t + 0 → bit (or_zero o) ≡ cond (is_some o) 1 0 → m ≡ n
       by_some None m n x y z = let k = s.counted in omega arith
       by_some (Some v) m n x y z = let k = s.counted in omega arith
 
@@ -179,10 +180,10 @@ module _ (e c : ℕ) (t : Table ℤ) (s : Stored e c t) (i j key : ℕ) (p : Som
     room = more (value_of t key) (size (grown t key q)) (len-insert nat_cmp_total t.rows key q) s.room u;
   }
     where
-      count_in : listed_count e c (grown t key q) + bit (amount (value_of t key)) ≡ listed_count e c t + bit q
-      count_in = ap (λ f. nonzeros (spread e c f) e c + bit (amount (value_of t key))) (gets_grown t key q) ∙ spread_count e c (value_of t) i j key p (Some q)
+      count_in : listed_count e c (grown t key q) + bit (or_zero (value_of t key)) ≡ listed_count e c t + bit q
+      count_in = ap (λ f. nonzeros (spread e c f) e c + bit (or_zero (value_of t key))) (gets_grown t key q) ∙ spread_count e c (value_of t) i j key p (Some q)
 
-      by_some : (o : Option ℤ) (m n : ℕ) → m ≡ cond (is_some o) (size t) (size t + 1) → n + bit (amount o) ≡ listed_count e c t + bit q → bit (amount o) ≡ cond (is_some o) 1 0 → bit q ≡ 1 → m ≡ n
+      by_some : (o : Option ℤ) (m n : ℕ) → m ≡ cond (is_some o) (size t) (size t + 1) → n + bit (or_zero o) ≡ listed_count e c t + bit q → bit (or_zero o) ≡ cond (is_some o) 1 0 → bit q ≡ 1 → m ≡ n
       by_some None m n x y z w = let k = s.counted in omega arith
       by_some (Some v) m n x y z w = let k = s.counted in omega arith
 
@@ -198,18 +199,18 @@ module _ (e c : ℕ) (t : Table ℤ) (s : Stored e c t) (i j key : ℕ) (p : Som
 pub record Asked (e c : ℕ) (t : Table ℤ) (i j key : ℕ) (a z : ℤ) : Type 0 where
   pub stored : Stored e c t
   pub placed : Some key ≡ place_of e c i j
-  pub read : a ≡ amount (value_of t key)
+  pub read : a ≡ or_zero (value_of t key)
   pub fits_read : SFits w64 a
   pub fits_change : SFits w64 z
 
-pub asked : {e c : ℕ} {t : Table ℤ} {i j key : ℕ} {a z : ℤ} → Stored e c t → Some key ≡ place_of e c i j → a ≡ amount (value_of t key) → SFits w64 a → SFits w64 z → Asked e c t i j key a z
+pub asked : {e c : ℕ} {t : Table ℤ} {i j key : ℕ} {a z : ℤ} → Stored e c t → Some key ≡ place_of e c i j → a ≡ or_zero (value_of t key) → SFits w64 a → SFits w64 z → Asked e c t i j key a z
 asked s p r f g = record { stored = s; placed = p; read = r; fits_read = f; fits_change = g }
 
 module _ {e c : ℕ} {t : Table ℤ} {i j key : ℕ} {a z : ℤ} (k : Asked e c t i j key a z) where
   abbrev held : Holding
   held = listed e c t
 
-  old : amount (value_of t key) ≡ held.at i j
+  old : or_zero (value_of t key) ≡ held.at i j
   old = old_is e c t k.stored i j key k.placed
 
   held_inside : inside held i j ≡ true
@@ -273,7 +274,7 @@ module _ {e c : ℕ} {t : Table ℤ} {i j key : ℕ} {a z : ℤ} (k : Asked e c 
           ap₂ (λ x n. (is_zero x && not (is_zero z)) && leb t.capacity n) (sym old) (count_is e c t k.stored i j key k.placed)
           ∙ by_some (value_of t key) (k.stored.each key) (rw (sym old) at facts.1)
         where
-          by_some : (o : Option ℤ) → T (proper o) → q ≡ amount o +ℤ z → ((is_zero (amount o) && not (is_zero z)) && leb t.capacity (size t)) ≡ not (is_some o || ltb (size t) t.capacity)
+          by_some : (o : Option ℤ) → T (proper o) → q ≡ or_zero o +ℤ z → ((is_zero (or_zero o) && not (is_zero z)) && leb t.capacity (size t)) ≡ not (is_some o || ltb (size t) t.capacity)
           by_some None h s =
               let x : pos 0 +ℤ z ≡ z = omega (arith, ints) in
               let y : is_zero z ≡ false = ap is_zero (sym (s ∙ x)) ∙ nonzero in

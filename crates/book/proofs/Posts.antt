@@ -1,5 +1,5 @@
 -- What a post answers and leaves, case by case.
-use Rattle.std.proofs.Common.{◌≡◌, ℕ, ◌≤◌, true, false, not, ℤ, ◌+ℤ◌, nat_abs, Ok, Err, Result, ap, ◌∙◌, ap₂, arith, w64, SFits, to_z, of_z}
+use Rattle.std.proofs.Common.{◌≡◌, ℕ, ◌≤◌, true, false, cond, not, ℤ, ◌+ℤ◌, nat_abs, Ok, Err, Result, ap, ◌∙◌, ap₂, arith, w64, SFits, to_z, of_z}
 use Rattle.std.proofs.lemmas.Int.{ints, to_z-of_z}
 use Rattle.std.proofs.lemmas.Bool.{cond-true, cond-false}
 use Rattle.terms.specs.Bounds.{quantity_bound}
@@ -10,21 +10,26 @@ use Rattle.book.specs.Holding.{Holding, inside, small, blocked, reply, with_pair
 module _ (b : Holding) (e c : ℕ) (z : ℤ) where
   pub reply_pair : inside b e c ≡ false → reply b e c z ≡ Err Pair
   unfolding reply
-  reply_pair h = cond-false (inside b e c) _ _ h
+  reply_pair h = cond-true (not (inside b e c)) _ _ (ap not h)
 
   pub reply_size : inside b e c ≡ true → small (b.at e c +ℤ z) ≡ false → reply b e c z ≡ Err Size
   unfolding reply
-  reply_size h s = cond-true (inside b e c) _ _ h ∙ cond-false (small (b.at e c +ℤ z)) _ _ s
+  reply_size h s = cond-false (not (inside b e c)) _ _ (ap not h) ∙ cond-true (not (small (b.at e c +ℤ z))) _ _ (ap not s)
+
+  -- neither PAIR nor SIZE: FULL decides
+  past : inside b e c ≡ true → small (b.at e c +ℤ z) ≡ true → reply b e c z ≡ cond (blocked b e c z) (Err Full) (Ok (b.at e c +ℤ z))
+  unfolding reply
+  past h s = cond-false (not (inside b e c)) _ _ (ap not h) ∙ cond-false (not (small (b.at e c +ℤ z))) _ _ (ap not s)
 
   pub reply_full : inside b e c ≡ true → small (b.at e c +ℤ z) ≡ true → blocked b e c z ≡ true → reply b e c z ≡ Err Full
   unfolding reply
   reply_full h s k =
-      cond-true (inside b e c) _ _ h ∙ (cond-true (small (b.at e c +ℤ z)) _ _ s ∙ cond-false (not (blocked b e c z)) _ _ (ap not k))
+      past h s ∙ cond-true (blocked b e c z) _ _ k
 
   pub reply_done : inside b e c ≡ true → small (b.at e c +ℤ z) ≡ true → blocked b e c z ≡ false → reply b e c z ≡ Ok (b.at e c +ℤ z)
   unfolding reply
   reply_done h s k =
-      cond-true (inside b e c) _ _ h ∙ (cond-true (small (b.at e c +ℤ z)) _ _ s ∙ cond-true (not (blocked b e c z)) _ _ (ap not k))
+      past h s ∙ cond-false (blocked b e c z) _ _ k
 
   -- a declined post changes nothing
   pub posted_declined : (x : Refusal) → reply b e c z ≡ Err x → posted b e c z ≡ b

@@ -1,6 +1,7 @@
 -- What a position book means.
-use Rattle.std.specs.Prelude.{◌≡◌, ℕ, zero, suc, ◌+◌, ◌*◌, ◌≤◌, Bool, false, cond, not, ◌&&◌, List, ℤ, pos, ◌+ℤ◌, Some, None, Ok, Err, Option, Result, ◌==◌, nat_le, nat_lt, slice_index_or, unsigned_abs}
+use Rattle.std.specs.Prelude.{◌≡◌, ℕ, zero, suc, ◌+◌, ◌*◌, ◌≤◌, Bool, false, cond, not, ◌&&◌, List, [], ◌∷◌, ℤ, pos, ◌+ℤ◌, Some, None, Ok, Err, Option, Result, ◌==◌, nat_le, nat_lt, slice_index_or, unsigned_abs, unwrap_or}
 use Rattle.terms.specs.Bounds.{quantity_bound}
+use Rattle.terms.specs.Causes.{unless}
 use Rattle.terms.specs.declared.refusal.Refusal.{Refusal}
 use Rattle.terms.specs.declared.refusal.Refusal.TheVariants.{Pair, Size, Full}
 use Rattle.book.specs.declared.position.Shape.{Shape}
@@ -23,6 +24,10 @@ quantity_of b entity contract = b.at entity contract
 -- the pair is one of the book's
 abbrev pub inside : Holding → ℕ → ℕ → Bool
 inside b entity contract = nat_lt entity b.entities && nat_lt contract b.contracts
+
+-- a number, or zero where there is none
+abbrev pub or_zero : Option ℤ → ℤ
+or_zero z = unwrap_or z (pos 0)
 
 -- a quantity is zero
 abbrev pub is_zero : ℤ → Bool
@@ -51,17 +56,17 @@ unfoldable pub blocked : Holding → ℕ → ℕ → ℤ → Bool
 blocked b entity contract change =
     (is_zero (b.at entity contract) && not (is_zero change)) && nat_le b.capacity (count b)
 
--- an answer that asks a condition, and is a refusal without it
-abbrev pub given : Bool → Refusal → Result ℤ Refusal → Result ℤ Refusal
-given holds why answer = cond holds answer (Err why)
+-- a post: PAIR for one that isn't the book's, SIZE for a new quantity that is too large, FULL
+abbrev pub post_table : Holding → ℕ → ℕ → ℤ → List (Bool × Refusal)
+post_table b entity contract change =
+    (not (inside b entity contract), Pair)
+    ∷ (not (small (b.at entity contract +ℤ change)), Size)
+    ∷ (blocked b entity contract change, Full)
+    ∷ []
 
--- what a post answers: the new quantity, or the first refusal from the top
+-- what a post answers: the new quantity, or the first of these causes
 unfoldable pub reply : Holding → ℕ → ℕ → ℤ → Result ℤ Refusal
-reply b entity contract change =
-    given (inside b entity contract) Pair
-    (given (small (b.at entity contract +ℤ change)) Size
-    (given (not (blocked b entity contract change)) Full
-    (Ok (b.at entity contract +ℤ change))))
+reply b entity contract change = unless (post_table b entity contract change) (Ok (b.at entity contract +ℤ change))
 
 -- the quantities of f, but for one pair
 abbrev pub put : (ℕ → ℕ → ℤ) → ℕ → ℕ → ℤ → ℕ → ℕ → ℤ
@@ -93,7 +98,7 @@ pub record Sound (b : Holding) : Type 0 where
 
 -- the sum of a quantity and a change, unless it is too large
 abbrev pub sum_of : ℤ → ℤ → Result ℤ Refusal
-sum_of q change = given (small (q +ℤ change)) Size (Ok (q +ℤ change))
+sum_of q change = cond (small (q +ℤ change)) (Ok (q +ℤ change)) (Err Size)
 
 -- every pair is at zero
 abbrev pub blank : ℕ → ℕ → ℕ → Holding

@@ -2,12 +2,7 @@
 use Rattle.std.specs.Prelude.{◌≡◌, ℕ, ◌+◌, ◌*◌, ◌≤◌, min, Bool, true, cond, not, ◌&&◌, T, ℤ, pos, Some, None, Option, ◌==◌, nat_lt}
 use Rattle.terms.specs.Bounds.{most_pairs}
 use Rattle.book.specs.Tables.{Table, size, value_of}
-use Rattle.book.specs.Holding.{Holding, blank, is_zero, small, nonzeros}
-
--- the quantity of a row: zero where there is none
-abbrev pub amount : Option ℤ → ℤ
-amount None = pos 0
-amount (Some q) = q
+use Rattle.book.specs.Holding.{Holding, blank, or_zero, is_zero, small, nonzeros}
 
 -- what a row may hold: a quantity that is small and not zero
 abbrev pub proper : Option ℤ → Bool
@@ -16,7 +11,7 @@ proper (Some q) = small q && not (is_zero q)
 
 -- the quantity of each pair below e and c
 abbrev pub spread : ℕ → ℕ → (ℕ → Option ℤ) → ℕ → ℕ → ℤ
-spread e c f i j = cond (nat_lt i e && nat_lt j c) (amount (f (i * c + j))) (pos 0)
+spread e c f i j = cond (nat_lt i e && nat_lt j c) (or_zero (f (i * c + j))) (pos 0)
 
 -- the book that a table of rows makes
 unfoldable pub listed : ℕ → ℕ → Table ℤ → Holding

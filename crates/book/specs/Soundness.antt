@@ -6,7 +6,8 @@ use Rattle.std.proofs.lemmas.Bool.{cond-false, cond_both, and_parts, ltb-true}
 use Rattle.terms.specs.Bounds.{quantity_bound}
 use Rattle.book.specs.Tables.{Table, value_of}
 use Rattle.book.specs.Holding.{Sound, count, gridded, is_zero, small, nonzero, nonzeros}
-use Rattle.book.specs.Listed.{amount, proper, listed, Stored}
+use Rattle.book.specs.Holding.{or_zero}
+use Rattle.book.specs.Listed.{proper, listed, Stored}
 
 -- one for a pair that is not zero
 abbrev pub bit : ℤ → ℕ
@@ -47,7 +48,7 @@ pub list_sound : (e c : ℕ) (t : Table ℤ) → Stored e c t → Sound (listed 
 unfolding listed count
 list_sound e c t s = record {
   bounded = λ i j.
-      cond_both (nat_lt i e && nat_lt j c) (amount (value_of t (i * c + j))) (pos 0) (λ z. unsigned_abs z ≤ quantity_bound)
+      cond_both (nat_lt i e && nat_lt j c) (or_zero (value_of t (i * c + j))) (pos 0) (λ z. unsigned_abs z ≤ quantity_bound)
       (λ _. bound (value_of t (i * c + j)) (s.each (i * c + j)))
       (λ _. omega arith);
   outside = λ i j o. cond-false (nat_lt i e && nat_lt j c) _ _ o;
@@ -58,6 +59,6 @@ list_sound e c t s = record {
     left true b h = tt
     left false b h = h
 
-    bound : (o : Option ℤ) → T (proper o) → unsigned_abs (amount o) ≤ quantity_bound
+    bound : (o : Option ℤ) → T (proper o) → unsigned_abs (or_zero o) ≤ quantity_bound
     bound None h = omega arith
     bound (Some q) h = leb→le (unsigned_abs q) quantity_bound (left (small q) (not (is_zero q)) h)

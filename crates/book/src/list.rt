@@ -1,7 +1,8 @@
 // A book that stores the non-zero pairs only, in ascending order.
 ghost use Rattle.std.specs.Prelude.{◌≡◌, length, if◌then◌else◌, nat_eq};
 ghost use Rattle.book.specs.Holding.{place_of};
-ghost use Rattle.book.specs.Listed.{amount, listed, new_list, Stored};
+ghost use Rattle.book.specs.Holding.{or_zero};
+ghost use Rattle.book.specs.Listed.{listed, new_list, Stored};
 ghost use Rattle.book.specs.Soundness.{list_sound};
 ghost use Rattle.book.specs.Tables.{value_of};
 
@@ -57,7 +58,7 @@ impl<'a> List<'a> {
 
     // The quantity under a key.
     fn quantity_at(&self, key: u64) -> i64
-        ensures { result ≡ amount (value_of self.now.register key) }
+        ensures { result ≡ or_zero (value_of self.now.register key) }
     {
         self.register.find(key).unwrap_or(0)
     }

@@ -1,3 +1,4 @@
 pub mod Bounds
 pub mod Marks
 pub mod Refusals
+pub mod Causes

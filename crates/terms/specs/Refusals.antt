@@ -1,4 +1,5 @@
--- The refusal table: each cause with its number and its name. The order of the causes is in the model, call by call.
+-- The refusal table: each cause with its number and its name, in the order in which causes are looked at; which of them a
+-- call has is said with the call.
 use Rattle.std.specs.Prelude.{ℕ, List, [], ◌++◌, codes, decimal}
 use Rattle.terms.specs.declared.refusal.Refusal.{Refusal}
 use Rattle.terms.specs.declared.refusal.Refusal.TheVariants.{Closed, Underlying, Kind, Unset, Turn, Time, Price, Delta, Value, ShortDay, Input, Ticket, Pair, Size, Full}
