@@ -1,5 +1,6 @@
 -- What a depository covers.
 use Rattle.std.specs.Prelude.{ℕ, ◌*◌, Bool, false, true, cond, ◌&&◌, List, ◌==◌, nat_le}
+use Rattle.std.specs.Int.{is_in_range}
 use Rattle.std.specs.List.{sum_by}
 use Rattle.terms.specs.Bounds.{quantity_bound, price_bound}
 use Rattle.terms.specs.declared.mark.Side.TheVariants.{Long, Short}
@@ -17,7 +18,7 @@ is_equity Other = false
 abbrev pub is_counted : ℕ → DepositoryRow → Bool
 is_counted entity row =
     (row.entity == entity && is_equity row.class)
-    && (nat_le row.quantity quantity_bound && (nat_le 1 row.price && nat_le row.price price_bound))
+    && (nat_le row.quantity quantity_bound && is_in_range 1 price_bound row.price)
 
 -- what a row adds for an entity: its quantity at its closing price, if it counts
 abbrev pub worth_to : ℕ → DepositoryRow → ℕ

@@ -1,8 +1,8 @@
 -- What cash covers, by the table of its reports.
-use Rattle.std.specs.Prelude.{ℕ, ◌+◌, ◌*◌, ◌≤◌, Bool, cond, ◌&&◌, ◌==◌, nat_le, nat_lt, Some, None, Ok, Err, Option, Result, unwrap_or}
+use Rattle.std.specs.Prelude.{ℕ, ◌+◌, ◌*◌, ◌≤◌, Bool, cond, ◌&&◌, ◌==◌, nat_le, nat_lt, Some, None, Ok, Err, Option, unwrap_or}
 use Rattle.terms.specs.Bounds.{amount_bound, most_entities, most_underlyings}
 use Rattle.terms.specs.declared.mark.Side.TheVariants.{Long, Short}
-use Rattle.terms.specs.declared.refusal.Refusal.{Refusal}
+use Rattle.terms.specs.Causes.{Verdict, verdict_of}
 use Rattle.terms.specs.declared.refusal.Refusal.TheVariants.{Input}
 use Rattle.book.specs.Tables.{Table, value_of, put_reply, putted}
 use Rattle.cover.specs.Covers.{Amounts}
@@ -23,15 +23,10 @@ report_of t entity underlying = cond (is_watched entity underlying) (value_of t 
 abbrev pub is_in_range : ℕ → ℕ → ℕ → Bool
 is_in_range entity underlying amount = is_watched entity underlying && nat_le amount amount_bound
 
--- the answer to a put, without the value that it replaces
-abbrev pub taken_down : Result (Option ℕ) Refusal → Result (Unit {0}) Refusal
-taken_down (Ok old) = Ok tt
-taken_down (Err why) = Err why
-
 -- what a report answers: INPUT where it is out of range, FULL where it is of a new pair and there is no place left
-abbrev pub report_reply : Table ℕ → ℕ → ℕ → ℕ → Result (Unit {0}) Refusal
+abbrev pub report_reply : Table ℕ → ℕ → ℕ → ℕ → Verdict
 report_reply t entity underlying amount =
-    cond (is_in_range entity underlying amount) (taken_down (put_reply t (key_of entity underlying))) (Err Input)
+    cond (is_in_range entity underlying amount) (verdict_of (put_reply t (key_of entity underlying))) (Err Input)
 
 -- what a report leaves
 abbrev pub reported : Table ℕ → ℕ → ℕ → ℕ → Table ℕ
@@ -39,7 +34,7 @@ reported t entity underlying amount =
     cond (is_in_range entity underlying amount) (putted t (key_of entity underlying) amount) t
 
 -- what is reported of each pair once a report is answered: its own pair has the amount, and a declined one changes nothing
-abbrev pub noted : Result (Unit {0}) Refusal → (ℕ → ℕ → Option ℕ) → ℕ → ℕ → ℕ → ℕ → ℕ → Option ℕ
+abbrev pub noted : Verdict → (ℕ → ℕ → Option ℕ) → ℕ → ℕ → ℕ → ℕ → ℕ → Option ℕ
 noted (Ok _) f entity underlying amount i j = cond (i == entity && j == underlying) (Some amount) (f i j)
 noted (Err why) f entity underlying amount i j = f i j
 

@@ -1,5 +1,6 @@
 -- What each make of source answers.
-use Rattle.std.specs.Prelude.{ℕ, Bool, cond, ◌&&◌, ℤ, pos, ◌-ℤ◌, neg_ℤ, Some, None, Option, ◌==◌, nat_le, nat_lt}
+use Rattle.std.specs.Prelude.{ℕ, Bool, cond, ℤ, pos, ◌-ℤ◌, neg_ℤ, Some, None, Option, ◌==◌, nat_lt}
+use Rattle.std.specs.Int.{is_in_range}
 use Rattle.terms.specs.Bounds.{price_bound}
 use Rattle.terms.specs.declared.kind.Kind.{Kind}
 use Rattle.terms.specs.declared.kind.Kind.TheVariants.{Future, Call, Put}
@@ -41,7 +42,7 @@ call_at price strike =
 
 -- a strike that an option can have
 abbrev pub struck : ℕ → Bool
-struck strike = nat_le 1 strike && nat_le strike price_bound
+struck strike = is_in_range 1 price_bound strike
 
 -- a call's delta by its strike: none without one
 abbrev pub call_of : ℕ → Option ℕ → Option ℤ

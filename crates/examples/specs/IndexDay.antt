@@ -18,17 +18,21 @@ use Rattle.model.specs.Runs.{Run, listing_of, book_at}
 use Rattle.model.specs.Breaches.{value_at, Over, Sighted, ProvisionalAt, Stands}
 use Rattle.examples.specs.Words.{index, contract, bought, crore, priced, Answers, Declines, mark_after}
 
--- two entities, two calls on the index, and limits of 5,000 and 10,000 crore
-abbrev pub run_of : List Call → Run
-run_of calls = record {
+-- two entities, two calls on the index, a net limit, and a gross limit of 10,000 crore
+abbrev pub run_under : ℕ → List Call → Run
+run_under net calls = record {
   opening = record {
     book = new_grid 4 2 2;
     contracts = contract kind.Call ∷ contract kind.Call ∷ [];
     underlyings = Index ∷ [];
-    limits = record { net = 5000 * crore; gross = 10000 * crore };
+    limits = record { net = net; gross = 10000 * crore };
   };
   calls = calls;
 }
+
+-- a net limit of 5,000 crore
+abbrev pub run_of : List Call → Run
+run_of = run_under (5000 * crore)
 
 -- an entity's net at a place, in ten-thousandths of a unit
 abbrev pub net_in : Run → ℕ → Source → ℕ → ℤ
@@ -86,11 +90,10 @@ pub record NetLimit : Type 0 where
 abbrev pub cash : ℕ → Amounts
 cash amount = paid (reported (emptied 1) 0 index amount)
 
--- the 5,310 crore through a day of four snapshots, and its settlement at place 8
-abbrev pub settled_over : Amounts → Run
-settled_over cover =
-    run_of
-    (large
+-- the 5,310 crore through a day of four snapshots, the final one at place 7, and its settlement at place 8
+abbrev pub day_of : Amounts → List Call
+day_of cover =
+    large
     ∷ snapshot index (at_minute 600)
     ∷ cure index (at_minute 615)
     ∷ snapshot index (at_minute 700)
@@ -99,7 +102,10 @@ settled_over cover =
     ∷ cure index (at_minute 815)
     ∷ snapshot index (at_minute 900)
     ∷ settle index cover
-    ∷ [])
+    ∷ []
+
+abbrev pub settled_over : Amounts → Run
+settled_over cover = run_of (day_of cover)
 
 -- 310 crore of cash, and one paisa less
 abbrev pub covered : Run

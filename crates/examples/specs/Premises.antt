@@ -9,7 +9,7 @@ use Rattle.model.specs.Calls.{post, snapshot, cure, settle}
 use Rattle.model.specs.Runs.{Run, book_at, listing_of, old_base, charge_after, CloseOf}
 use Rattle.model.specs.Handbook.{Larger, Unmoved}
 use Rattle.examples.specs.Words.{index, stock, contract, bought, sold, crore, Answers}
-use Rattle.examples.specs.IndexDay.{at_minute, large}
+use Rattle.examples.specs.IndexDay.{run_under, day_of}
 use Rattle.examples.specs.Ban as ban
 
 -- ---- larger limits and covers
@@ -18,28 +18,9 @@ use Rattle.examples.specs.Ban as ban
 abbrev pub even : ℕ → Amounts
 even amount entity underlying side = amount
 
--- 5,310 crore through a day of four snapshots, against a net limit and a cover: the final snapshot is at place 7, the settlement
--- at place 8
+-- 5,310 crore through a day of four snapshots, against a net limit and a cover, both in crore
 abbrev pub day_under : ℕ → ℕ → Run
-day_under net cover = record {
-  opening = record {
-    book = new_grid 4 2 2;
-    contracts = contract kind.Call ∷ contract kind.Call ∷ [];
-    underlyings = Index ∷ [];
-    limits = record { net = net * crore; gross = 10000 * crore };
-  };
-  calls =
-      large
-      ∷ snapshot index (at_minute 600)
-      ∷ cure index (at_minute 615)
-      ∷ snapshot index (at_minute 700)
-      ∷ cure index (at_minute 715)
-      ∷ snapshot index (at_minute 800)
-      ∷ cure index (at_minute 815)
-      ∷ snapshot index (at_minute 900)
-      ∷ settle index (even (cover * crore))
-      ∷ [];
-}
+day_under net cover = run_under (net * crore) (day_of (even (cover * crore)))
 
 pub record LargerIsMet : Type 0 where
   -- a net limit of 5,400 crore in place of 5,000, all else alike

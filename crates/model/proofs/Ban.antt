@@ -6,20 +6,30 @@ use Rattle.std.proofs.lemmas.Bool.{eq-eqb, cond-true, lt-ltb}
 use Rattle.terms.specs.Bounds.{most_contracts}
 use Rattle.delta.specs.Sources.{Source}
 use Rattle.reading.specs.Sums.{total_below}
-use Rattle.reading.specs.Sheets.{within, or_zero, contract_at}
+use Rattle.book.specs.Holding.{or_zero}
+use Rattle.reading.specs.Sheets.{within, contract_at}
 use Rattle.reading.specs.Readings.{net}
+use Rattle.rules.specs.Ban.{begins, ends}
 use Rattle.rules.specs.Violation.{violation}
 use Rattle.rules.specs.Charge.{charge_of}
 use Rattle.stock.specs.Close.{judges, obeys, violated_by}
 use Rattle.model.specs.Opening.{Listing}
 use Rattle.model.specs.State.{Quantities, Ledger, Stock, at}
-use Rattle.model.specs.Readings.{weights, net_at}
-use Rattle.model.specs.Stocks.{ban_ends, turn_at, base_after, closed_stock}
+use Rattle.model.specs.Readings.{weights, net_at, interest_at}
+use Rattle.model.specs.Stocks.{limit_in, turn_at, base_after, closed_stock}
 use Rattle.model.specs.Calls.{close}
 use Rattle.model.specs.Runs.{Run, before, after, listing_of, book_at, old_base, Accepted, charge_after, Between}
 use Rattle.model.specs.Handbook.{BaseShrinks, MarketShrinks}
 use Rattle.model.proofs.Signs.{total_zero, sum_mono, between_self, between_zero, between_true, no_violation, between_size, free_of_charge}
 use Rattle.model.proofs.Places.{after_accepted}
+
+-- market interest is where a ban of the stock begins
+abbrev pub ban_begins : Listing → Ledger → ℕ → Source → Bool
+ban_begins l s u d = begins (limit_in (s.stocks u)) (interest_at l u d s.book.at)
+
+-- market interest is where a ban of the stock ends
+abbrev pub ban_ends : Listing → Ledger → ℕ → Source → Bool
+ban_ends l s u d = ends (limit_in (s.stocks u)) (interest_at l u d s.book.at)
 
 -- net reads only the contracts of its underlying
 pub net_same : (l : Listing) (u : ℕ) (d : Source) (q q' : Quantities) (e : ℕ) → ((c : ℕ) → within l.contracts u c ≡ true → q e c ≡ q' e c) → net_at l u d q e ≡ net_at l u d q' e

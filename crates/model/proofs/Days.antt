@@ -8,15 +8,34 @@ use Rattle.index.specs.declared.day.Day.{Day}
 use Rattle.index.specs.declared.day.Round.{Round}
 use Rattle.index.specs.declared.day.Round.TheVariants.{Regular, Final}
 use Rattle.index.specs.Bounds.{last_minute, cure_minutes}
-use Rattle.index.specs.Days.{round_at, is_later, is_cure_time, awaits_snapshot, owes_cure, owed_by}
+use Rattle.index.specs.declared.day.Due.{Due}
+use Rattle.index.specs.declared.day.Due.TheVariants as due
+use Rattle.index.specs.Days.{round_at, is_later, is_cure_time, awaits_snapshot, owes_cure, is_complete, owed_by}
 use Rattle.terms.specs.declared.kind.Underlying.TheVariants as kind
-use Rattle.model.specs.Causes.{unless, kind_table}
+use Rattle.terms.specs.Causes.{unless}
+use Rattle.model.specs.Causes.{kind_table}
 use Rattle.model.specs.Opening.{Listing}
 use Rattle.model.specs.Indices.{snapshot_table, cure_table, of_reading, round_in}
 use Rattle.model.specs.Calls.{Call, snapshot, cure, settle}
 use Rattle.model.specs.Runs.{Run, before, after, Accepted}
 use Rattle.model.specs.Breaches.{LastSnapshot, Uncured, Unsettled, Owed}
 use Rattle.model.proofs.Events.{cleared, verdict_of_accepted, one_call, is_about, Event, snaps_at, cures_at, settles_at, rests_at, event}
+
+-- ---- a day waits for one thing
+pub not_snapshot_and_cure : (x : Due) → awaits_snapshot x ≡ true → owes_cure x ≡ true → ⊥
+not_snapshot_and_cure due.Snapshot p q = false≢true q
+not_snapshot_and_cure due.Cure p q = false≢true p
+not_snapshot_and_cure due.Settlement p q = false≢true p
+
+pub not_snapshot_and_settlement : (x : Due) → awaits_snapshot x ≡ true → is_complete x ≡ true → ⊥
+not_snapshot_and_settlement due.Snapshot p q = false≢true q
+not_snapshot_and_settlement due.Cure p q = false≢true p
+not_snapshot_and_settlement due.Settlement p q = false≢true p
+
+pub not_cure_and_settlement : (x : Due) → owes_cure x ≡ true → is_complete x ≡ true → ⊥
+not_cure_and_settlement due.Snapshot p q = false≢true p
+not_cure_and_settlement due.Cure p q = false≢true q
+not_cure_and_settlement due.Settlement p q = false≢true p
 
 -- ---- which call
 

@@ -10,11 +10,13 @@ use Rattle.index.specs.Calls.{rule_of, judged_by, settled_by, cover_in}
 use Rattle.index.specs.Sweeps.{swept}
 use Rattle.index.specs.Days.{no_day, day_after, cured_day}
 use Rattle.index.specs.declared.calls.Rule.{Rule}
+use Rattle.index.specs.declared.day.Day.{Day}
 use Rattle.index.specs.declared.calls.Rule.TheVariants as rule
 use Rattle.index.specs.declared.mark.MarkRow.{MarkRow}
-use Rattle.model.specs.Causes.{Answer, Verdict, unless, cause_in}
+use Rattle.terms.specs.Causes.{Verdict, unless}
+use Rattle.model.specs.Causes.{Answer, cause_in}
 use Rattle.model.specs.Opening.{Terms, terms_of}
-use Rattle.model.specs.State.{State, at}
+use Rattle.model.specs.State.{State, Marks, at}
 use Rattle.model.specs.Readings.{reading_at}
 use Rattle.model.specs.Indices.{round_of}
 use Rattle.model.specs.Calls.{Call, post, entry, confirm, snapshot, cure, settle, set_limit, close, closed_table, of_call, verdict, number, done, decided}
@@ -88,33 +90,33 @@ data Turn (s s' : State) (u : ℕ) (c : Call) : Type 0 where
   settles : (a : Amounts) → c ≡ settle u a → s'.marks u ≡ settled_rows s.terms s u a → s'.ledger.days u ≡ no_day → Turn s s' u c
   rests : is_about u c ≡ false → s'.marks u ≡ s.marks u → s'.ledger.days u ≡ s.ledger.days u → Turn s s' u c
 
+-- a call on the index v: what it is to that one it is to u where they are equal, and otherwise u's rows and day rest
+turn_of_index : (s : State) (u v : ℕ) (c : Call) (rows : ℕ → Mark → MarkRow) (day : Day) → is_about u c ≡ eqb v u → (done s c).marks ≡ at v rows s.marks → (done s c).ledger.days ≡ at v day s.ledger.days → Turn s (done s c) v c → Turn s (done s c) u c
+turn_of_index s u v c rows day about marks days here = ⊎_elim hit miss (cases_eq u v)
+  where
+    hit : u ≡ v → Turn s (done s c) u c
+    hit q = subst (λ (w : ℕ). Turn s (done s c) w c) (sym q) here
+
+    miss : (u ≡ v → ⊥) → Turn s (done s c) u c
+    miss q =
+        rests (about ∙ ne_eqb v u (λ e. q (sym e))) (ap (λ (f : Marks). f u) marks ∙ at_other v rows s.marks u q)
+        (ap (λ (f : ℕ → Day). f u) days ∙ at_other v day s.ledger.days u q)
+
 turn : (s : State) (u : ℕ) (c : Call) → Turn s (done s c) u c
 turn s u (post e c x) = rests refl refl refl
 turn s u (entry k d) = rests refl refl refl
 turn s u (confirm k) = rests refl refl refl
 turn s u (set_limit v f ds) = rests refl refl refl
 turn s u (close v two d) = rests refl refl refl
-turn s u (snapshot v d) = ⊎_elim hit miss (cases_eq u v)
-  where
-    hit : u ≡ v → Turn s (done s (snapshot v d)) u (snapshot v d)
-    hit q = subst (λ (w : ℕ). Turn s (done s (snapshot v d)) w (snapshot v d)) (sym q) (snaps d refl (at_same v _ s.marks) (at_same v _ s.ledger.days))
-
-    miss : (u ≡ v → ⊥) → Turn s (done s (snapshot v d)) u (snapshot v d)
-    miss q = rests (ne_eqb v u (λ e. q (sym e))) (at_other v _ s.marks u q) (at_other v _ s.ledger.days u q)
-turn s u (cure v d) = ⊎_elim hit miss (cases_eq u v)
-  where
-    hit : u ≡ v → Turn s (done s (cure v d)) u (cure v d)
-    hit q = subst (λ (w : ℕ). Turn s (done s (cure v d)) w (cure v d)) (sym q) (cures d refl (at_same v _ s.marks) (at_same v _ s.ledger.days))
-
-    miss : (u ≡ v → ⊥) → Turn s (done s (cure v d)) u (cure v d)
-    miss q = rests (ne_eqb v u (λ e. q (sym e))) (at_other v _ s.marks u q) (at_other v _ s.ledger.days u q)
-turn s u (settle v a) = ⊎_elim hit miss (cases_eq u v)
-  where
-    hit : u ≡ v → Turn s (done s (settle v a)) u (settle v a)
-    hit q = subst (λ (w : ℕ). Turn s (done s (settle v a)) w (settle v a)) (sym q) (settles a refl (at_same v _ s.marks) (at_same v _ s.ledger.days))
-
-    miss : (u ≡ v → ⊥) → Turn s (done s (settle v a)) u (settle v a)
-    miss q = rests (ne_eqb v u (λ e. q (sym e))) (at_other v _ s.marks u q) (at_other v _ s.ledger.days u q)
+turn s u (snapshot v d) =
+    turn_of_index s u v (snapshot v d) (watched_rows s.terms s (rule_of (round_of d)) v d) (day_after (round_of d) d.minute (s.ledger.days v)) refl refl refl
+    (snaps d refl (at_same v _ s.marks) (at_same v _ s.ledger.days))
+turn s u (cure v d) =
+    turn_of_index s u v (cure v d) (watched_rows s.terms s rule.Cure v d) (cured_day d.minute (s.ledger.days v)) refl refl refl
+    (cures d refl (at_same v _ s.marks) (at_same v _ s.ledger.days))
+turn s u (settle v a) =
+    turn_of_index s u v (settle v a) (settled_rows s.terms s v a) no_day refl refl refl
+    (settles a refl (at_same v _ s.marks) (at_same v _ s.ledger.days))
 
 -- the same of a place of a run
 pub data Event (r : Run) (k u : ℕ) : Type 0 where

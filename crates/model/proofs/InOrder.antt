@@ -11,7 +11,8 @@ use Rattle.index.specs.declared.day.Round.{Round}
 use Rattle.index.specs.declared.day.Round.TheVariants.{Regular, Final}
 use Rattle.index.specs.Days.{round_at, one_more, awaits_snapshot, owes_cure, is_complete, owed_by, is_short}
 use Rattle.terms.specs.declared.kind.Underlying.TheVariants as kind
-use Rattle.model.specs.Causes.{unless, kind_table}
+use Rattle.terms.specs.Causes.{checked}
+use Rattle.model.specs.Causes.{kind_table}
 use Rattle.model.specs.Indices.{settlement_table, round_in}
 use Rattle.model.specs.Calls.{snapshot, settle}
 use Rattle.model.specs.Runs.{Run, before, Accepted}
@@ -19,23 +20,7 @@ use Rattle.model.specs.Breaches.{Owed, Taken, Finished, HowMany, none, has, lack
 use Rattle.model.specs.Handbook.{InOrder, DaysGoInOrder}
 use Rattle.model.proofs.HowMany.{how_many_alike, how_many_none}
 use Rattle.model.proofs.Events.{cleared, verdict_of_accepted, Event, snaps_at, cures_at, settles_at, rests_at, event}
-use Rattle.model.proofs.Days.{differ, snapshot_or_cure, snapshot_or_settlement, cure_or_settlement, one_snapshot, no_snapshot, no_settlement, at_snapshot, at_cure_is, which_round, snapshot_on, snapshot_back, last_here, unsettled_on, unsettled_back, owed_back, none_after_cure, none_after_settlement, owed_is, minute_in, snapshot_minute, cure_minute, minutes}
-
--- ---- a day waits for one thing
-not_snapshot_and_cure : (x : Due) → awaits_snapshot x ≡ true → owes_cure x ≡ true → ⊥
-not_snapshot_and_cure due.Snapshot p q = false≢true q
-not_snapshot_and_cure due.Cure p q = false≢true p
-not_snapshot_and_cure due.Settlement p q = false≢true p
-
-not_snapshot_and_settlement : (x : Due) → awaits_snapshot x ≡ true → is_complete x ≡ true → ⊥
-not_snapshot_and_settlement due.Snapshot p q = false≢true q
-not_snapshot_and_settlement due.Cure p q = false≢true p
-not_snapshot_and_settlement due.Settlement p q = false≢true p
-
-not_cure_and_settlement : (x : Due) → owes_cure x ≡ true → is_complete x ≡ true → ⊥
-not_cure_and_settlement due.Snapshot p q = false≢true p
-not_cure_and_settlement due.Cure p q = false≢true q
-not_cure_and_settlement due.Settlement p q = false≢true p
+use Rattle.model.proofs.Days.{not_snapshot_and_cure, not_snapshot_and_settlement, not_cure_and_settlement, differ, snapshot_or_cure, snapshot_or_settlement, cure_or_settlement, one_snapshot, no_snapshot, no_settlement, at_snapshot, at_cure_is, which_round, snapshot_on, snapshot_back, last_here, unsettled_on, unsettled_back, owed_back, none_after_cure, none_after_settlement, owed_is, minute_in, snapshot_minute, cure_minute, minutes}
 
 module _ (r : Run) (u : ℕ) where
   abbrev day : ℕ → Day
@@ -179,7 +164,7 @@ module _ (r : Run) (u : ℕ) where
   at_settlement : (k : ℕ) (c : Amounts) → Accepted r k (settle u c) → is_short (day k) ≡ false
   at_settlement k c a =
       let l = (before r k).terms.listing in
-      let e = cleared (kind_table l kind.Index u) (unless (settlement_table (day k)) (Ok tt)) (verdict_of_accepted r k (settle u c) a) in
+      let e = cleared (kind_table l kind.Index u) (checked (settlement_table (day k))) (verdict_of_accepted r k (settle u c) a) in
       (cleared (settlement_table (day k)) (Ok tt) e.1).0.0
 
   pub in_order : (k : ℕ) → InOrder r k u

@@ -6,7 +6,8 @@ use Rattle.terms.specs.declared.refusal.Refusal.TheVariants.{Closed}
 use Rattle.book.proofs.Equal.{equal_is_same, same_is_equal}
 use Rattle.cover.specs.Covers.{Amounts}
 use Rattle.delta.specs.Sources.{Source, EqualSources}
-use Rattle.model.specs.Causes.{Verdict, cause_in}
+use Rattle.terms.specs.Causes.{Verdict}
+use Rattle.model.specs.Causes.{cause_in}
 use Rattle.model.specs.Opening.{Listing, Terms, listing_from, terms_of, is_open}
 use Rattle.model.specs.State.{State, Ledger, new_ledger}
 use Rattle.model.specs.Calls.{Call, post, entry, confirm, snapshot, cure, settle, set_limit, close, verdict, of_call, number, effect, done, decided}

@@ -21,7 +21,7 @@ use Rattle.model.specs.Breaches.{value_at, Over, LastSnapshot, Sighted, Provisio
 use Rattle.model.specs.Handbook.{Truthful}
 use Rattle.model.proofs.HowMany.{how_many_alike, how_many_none, how_many_zero, how_many_some}
 use Rattle.model.proofs.Events.{is_about}
-use Rattle.model.proofs.Days.{differ, snapshot_or_cure, snapshot_or_settlement, cure_or_settlement, one_snapshot, one_cure, one_settlement, no_snapshot, no_cure, no_settlement, at_snapshot, at_cure_is, last_here, unsettled_on, unsettled_back, owed_on, owed_back, owed_here, none_after_final, none_after_cure, none_after_settlement, owed_is}
+use Rattle.model.proofs.Days.{not_snapshot_and_cure, differ, snapshot_or_cure, snapshot_or_settlement, cure_or_settlement, one_snapshot, one_cure, one_settlement, no_snapshot, no_cure, no_settlement, at_snapshot, at_cure_is, last_here, unsettled_on, unsettled_back, owed_on, owed_back, owed_here, none_after_final, none_after_cure, none_after_settlement, owed_is}
 
 max_of_smaller : (a b : ℕ) → a ≤ b → max a b ≡ b
 max_of_smaller a b h = omega arith
@@ -159,15 +159,6 @@ module _ (r : Run) (k u e : ℕ) (m : Mark) (old new : MarkRow) (so : Truthful r
 none_sighted : (b : Bool) (P : Type 0) → b ≡ false → (P → ⊥) → (b ≡ true) ↔ P
 none_sighted b P e n = (λ t. absurd (both_ways b e t), λ p. absurd (n p))
 
--- no day waits for a snapshot and for a cure
-not_both : (d : Day) → awaits_snapshot d.due ≡ true → owes_cure d.due ≡ true → ⊥
-not_both d a b = go d.due a b
-  where
-    go : (x : Due) → awaits_snapshot x ≡ true → owes_cure x ≡ true → ⊥
-    go due.Snapshot p q = false≢true q
-    go due.Cure p q = false≢true p
-    go due.Settlement p q = false≢true p
-
 -- ---- a watched entity's mark
 module _ (r : Run) (u e : ℕ) (m : Mark) (watched : e < r.opening.book.entities) where
   abbrev pub row : ℕ → MarkRow
@@ -234,7 +225,7 @@ module _ (r : Run) (u e : ℕ) (m : Mark) (watched : e < r.opening.book.entities
       where
         none_now : ((row k).sighted ≡ true) ↔ Sighted r (suc k) u e m
         none_now = (
-          λ t. let s = so.sighted.0 t in absurd (not_both ((before r k).ledger.days u) (at_snapshot r k u d a).0 ((owed_is r u k).1 (s.place, s.source, s.owed))),
+          λ t. let s = so.sighted.0 t in absurd (not_snapshot_and_cure ((before r k).ledger.days u).due (at_snapshot r k u d a).0 ((owed_is r u k).1 (s.place, s.source, s.owed))),
           λ s. absurd (none_after_final r k u d a g s.place s.source s.owed),
         )
 

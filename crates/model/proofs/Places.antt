@@ -2,7 +2,8 @@
 use Rattle.std.proofs.Common.{◌≡◌, ℕ, zero, suc, List, [], ◌∷◌, ◌++◌, take, ℤ, Some, None, Ok, Err, Option, sym, refl, ap, ◌∙◌, arith}
 use Rattle.std.specs.List.{slice_get}
 use Rattle.terms.specs.declared.refusal.Refusal.{Refusal}
-use Rattle.model.specs.Causes.{Verdict, cause_in}
+use Rattle.terms.specs.Causes.{Verdict}
+use Rattle.model.specs.Causes.{cause_in}
 use Rattle.model.specs.Opening.{Terms, terms_of}
 use Rattle.model.specs.State.{State, opened}
 use Rattle.model.specs.Calls.{Call, verdict, number, effect, done, decided, step}

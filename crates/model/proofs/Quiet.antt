@@ -5,7 +5,7 @@ use Rattle.std.specs.List.{slice_get}
 use Rattle.terms.specs.declared.command.Trade.{Trade}
 use Rattle.terms.specs.declared.refusal.Refusal.{Refusal}
 use Rattle.book.specs.Holding.{Holding, reply, posted, settle as left_by}
-use Rattle.model.specs.Causes.{Verdict}
+use Rattle.terms.specs.Causes.{Verdict}
 use Rattle.model.specs.Opening.{Listing}
 use Rattle.model.specs.State.{State, Ledger}
 use Rattle.model.specs.Custody.{off_member}

@@ -6,7 +6,8 @@ use Rattle.terms.specs.declared.kind.Underlying.{Underlying as Sort}
 use Rattle.terms.specs.declared.refusal.Refusal.{Refusal}
 use Rattle.terms.specs.declared.refusal.Refusal.TheVariants.{Closed}
 use Rattle.book.specs.Holding.{Holding, reply, posted, settle}
-use Rattle.model.specs.Causes.{Answer, Verdict, unless, unless_missing, verdict_of, kind_table, number_in}
+use Rattle.terms.specs.Causes.{Verdict, unless, verdict_of, checked}
+use Rattle.model.specs.Causes.{Answer, unless_missing, kind_table, number_in}
 use Rattle.model.specs.Opening.{is_open}
 use Rattle.model.specs.State.{State, with_book, with_ticket}
 use Rattle.model.specs.Custody.{transfer_reply, transferred}
@@ -15,22 +16,22 @@ use Rattle.model.specs.Calls.{Call, post, entry, confirm, ticket_at, entry_table
 -- ---- tables of causes
 
 -- a table that lets nothing through declines whatever comes after it
-pub unless_err : (t : List (Bool × Refusal)) (v : Verdict) (why : Refusal) → unless t (Ok tt) ≡ Err why → unless t v ≡ Err why
+pub unless_err : (t : List (Bool × Refusal)) (v : Verdict) (why : Refusal) → checked t ≡ Err why → unless t v ≡ Err why
 unless_err [] v why e = let z : ◌≡◌ {A = ℕ} 0 1 = cc in absurd (omega arith)
 unless_err ((true, w) ∷ t) v why e = e
 unless_err ((false, w) ∷ t) v why e = unless_err t v why e
 
-pub unless_ok : (t : List (Bool × Refusal)) (v : Verdict) → unless t (Ok tt) ≡ Ok tt → unless t v ≡ v
+pub unless_ok : (t : List (Bool × Refusal)) (v : Verdict) → checked t ≡ Ok tt → unless t v ≡ v
 unless_ok [] v e = refl
 unless_ok ((true, w) ∷ t) v e = let z : ◌≡◌ {A = ℕ} 0 1 = cc in absurd (omega arith)
 unless_ok ((false, w) ∷ t) v e = unless_ok t v e
 
 -- a check that declined, where its answer came through a `?`
-pub exit_unless : (t : List (Bool × Refusal)) (v r : Verdict) (why : Refusal) → IsErrAnd r (λ y. y ≡ why) → unless t (Ok tt) ≡ Err why → r ≡ unless t v
+pub exit_unless : (t : List (Bool × Refusal)) (v r : Verdict) (why : Refusal) → IsErrAnd r (λ y. y ≡ why) → checked t ≡ Err why → r ≡ unless t v
 exit_unless t v r why q h = let p = err_from_is_err_and r q in p.1 ∙ ap Err p.2 ∙ sym (unless_err t v why h)
 
 -- the same of a check that answers something
-pub exit_verdict : {A : Type 0} (t : List (Bool × Refusal)) (v : Verdict) (r : Result A Refusal) (why : Refusal) → IsErrAnd r (λ y. y ≡ why) → unless t (Ok tt) ≡ Err why → verdict_of r ≡ unless t v
+pub exit_verdict : {A : Type 0} (t : List (Bool × Refusal)) (v : Verdict) (r : Result A Refusal) (why : Refusal) → IsErrAnd r (λ y. y ≡ why) → checked t ≡ Err why → verdict_of r ≡ unless t v
 exit_verdict t v r why q h = let p = err_from_is_err_and r q in ap verdict_of p.1 ∙ ap Err p.2 ∙ sym (unless_err t v why h)
 
 -- what is told only of missing deltas, likewise
@@ -71,22 +72,22 @@ module _ (s : State) (open_now : true ≡ is_open s.terms) where
 
 module _ (s : State) (c : Call) (table : List (Bool × Refusal)) (rest : Verdict) (is : verdict s.terms s.ledger c ≡ unless table rest) where
   -- declined by the table
-  pub by_table : (why : Refusal) → unless table (Ok tt) ≡ Err why → (Err why, s) ≡ step s c
+  pub by_table : (why : Refusal) → checked table ≡ Err why → (Err why, s) ≡ step s c
   by_table why h = step_err s c why (is ∙ unless_err table rest why h)
 
   -- let through by the table and declined by the rest
-  pub by_rest : (why : Refusal) → unless table (Ok tt) ≡ Ok tt → rest ≡ Err why → (Err why, s) ≡ step s c
+  pub by_rest : (why : Refusal) → checked table ≡ Ok tt → rest ≡ Err why → (Err why, s) ≡ step s c
   by_rest why h r = step_err s c why (is ∙ unless_ok table rest h ∙ r)
 
   -- the same, where the answer came through a `?`
-  pub exit_by_table : (r : Answer) (why : Refusal) → IsErrAnd r (λ y. y ≡ why) → unless table (Ok tt) ≡ Err why → (r, s) ≡ step s c
+  pub exit_by_table : (r : Answer) (why : Refusal) → IsErrAnd r (λ y. y ≡ why) → checked table ≡ Err why → (r, s) ≡ step s c
   exit_by_table r why q h = let p = err_from_is_err_and r q in ap (λ (a : Answer). (a, s)) (p.1 ∙ ap Err p.2) ∙ by_table why h
 
-  pub exit_by_rest : (r : Answer) (why : Refusal) → IsErrAnd r (λ y. y ≡ why) → unless table (Ok tt) ≡ Ok tt → rest ≡ Err why → (r, s) ≡ step s c
+  pub exit_by_rest : (r : Answer) (why : Refusal) → IsErrAnd r (λ y. y ≡ why) → checked table ≡ Ok tt → rest ≡ Err why → (r, s) ≡ step s c
   exit_by_rest r why q h e = let p = err_from_is_err_and r q in ap (λ (a : Answer). (a, s)) (p.1 ∙ ap Err p.2) ∙ by_rest why h e
 
   -- let through
-  pub by_none : unless table (Ok tt) ≡ Ok tt → rest ≡ Ok tt → (Ok (number s c), done s c) ≡ step s c
+  pub by_none : checked table ≡ Ok tt → rest ≡ Ok tt → (Ok (number s c), done s c) ≡ step s c
   by_none h r = step_ok s c (is ∙ unless_ok table rest h ∙ r)
 
 -- ---- a call whose causes are two tables and then a rest
@@ -97,14 +98,14 @@ on_kind kind s u = closed_table s.terms ++ kind_table s.terms.listing kind u
 
 module _ (s : State) (c : Call) (first second : List (Bool × Refusal)) (rest : Verdict) (is : verdict s.terms s.ledger c ≡ unless first (unless second rest)) where
   -- declined by the first, or by the second, where the answer came through a `?`
-  pub exit_by_first : (r : Answer) (why : Refusal) → IsErrAnd r (λ y. y ≡ why) → unless first (Ok tt) ≡ Err why → (r, s) ≡ step s c
+  pub exit_by_first : (r : Answer) (why : Refusal) → IsErrAnd r (λ y. y ≡ why) → checked first ≡ Err why → (r, s) ≡ step s c
   exit_by_first = exit_by_table s c first (unless second rest) is
 
-  pub exit_by_second : (r : Answer) (why : Refusal) → IsErrAnd r (λ y. y ≡ why) → unless first (Ok tt) ≡ Ok tt → unless second (Ok tt) ≡ Err why → (r, s) ≡ step s c
+  pub exit_by_second : (r : Answer) (why : Refusal) → IsErrAnd r (λ y. y ≡ why) → checked first ≡ Ok tt → checked second ≡ Err why → (r, s) ≡ step s c
   exit_by_second r why q h e = exit_by_rest s c first (unless second rest) is r why q h (unless_err second rest why e)
 
   -- let through by both: the rest decides
-  pub by_decision : unless first (Ok tt) ≡ Ok tt → unless second (Ok tt) ≡ Ok tt → decided rest (number s c) s (done s c) ≡ step s c
+  pub by_decision : checked first ≡ Ok tt → checked second ≡ Ok tt → decided rest (number s c) s (done s c) ≡ step s c
   by_decision h k = ap (λ (v : Verdict). decided v (number s c) s (done s c)) (sym (is ∙ unless_ok first (unless second rest) h ∙ unless_ok second rest k))
 
 -- ---- entry
@@ -117,14 +118,14 @@ module _ (s : State) (k : ℕ) (d : Trade) where
   entry_reply = reply s.ledger.book d.member d.contract d.change
 
   -- declined before the book is asked
-  pub entry_refused : (r : Answer) (why : Refusal) → IsErrAnd r (λ y. y ≡ why) → unless entry_causes (Ok tt) ≡ Err why → (r, s) ≡ step s (entry k d)
+  pub entry_refused : (r : Answer) (why : Refusal) → IsErrAnd r (λ y. y ≡ why) → checked entry_causes ≡ Err why → (r, s) ≡ step s (entry k d)
   entry_refused = exit_by_table s (entry k d) entry_causes (verdict_of entry_reply) refl
 
   -- declined by the book
-  pub entry_declined : (r : Answer) (why : Refusal) → IsErrAnd r (λ y. y ≡ why) → unless entry_causes (Ok tt) ≡ Ok tt → entry_reply ≡ Err why → (r, s) ≡ step s (entry k d)
+  pub entry_declined : (r : Answer) (why : Refusal) → IsErrAnd r (λ y. y ≡ why) → checked entry_causes ≡ Ok tt → entry_reply ≡ Err why → (r, s) ≡ step s (entry k d)
   entry_declined r why q h e = exit_by_rest s (entry k d) entry_causes (verdict_of entry_reply) refl r why q h (ap verdict_of e)
 
-  pub entry_done : (q : ℤ) → unless entry_causes (Ok tt) ≡ Ok tt → entry_reply ≡ Ok q → (Ok q, record { terms = s.terms; ledger = with_ticket (with_book s.ledger (posted s.ledger.book d.member d.contract d.change)) k (Some d); marks = s.marks }) ≡ step s (entry k d)
+  pub entry_done : (q : ℤ) → checked entry_causes ≡ Ok tt → entry_reply ≡ Ok q → (Ok q, record { terms = s.terms; ledger = with_ticket (with_book s.ledger (posted s.ledger.book d.member d.contract d.change)) k (Some d); marks = s.marks }) ≡ step s (entry k d)
   entry_done q h e =
       ap (λ (a : Answer). (Ok (number_in a), done s (entry k d))) (sym e)
       ∙ by_none s (entry k d) entry_causes (verdict_of entry_reply) refl h (ap verdict_of e)

@@ -8,17 +8,18 @@ use Rattle.reading.specs.Sheets.{within, contract_at}
 use Rattle.rules.specs.Violation.{violation}
 use Rattle.rules.specs.Charge.{charge_of}
 use Rattle.stock.specs.Close.{in_force, turn_of, obeys, violated_by}
-use Rattle.model.specs.Causes.{Verdict, cause_in}
+use Rattle.terms.specs.Causes.{Verdict}
+use Rattle.model.specs.Causes.{cause_in}
 use Rattle.model.specs.Opening.{Listing, Terms}
 use Rattle.model.specs.State.{State, Ledger, Stock}
 use Rattle.model.specs.Readings.{weights, net_at}
-use Rattle.model.specs.Stocks.{ban_begins, ban_ends, base_after}
+use Rattle.model.specs.Stocks.{base_after}
 use Rattle.model.specs.Calls.{Call, post, entry, confirm, snapshot, cure, settle, set_limit, close, verdict, number, done, decided, step}
 use Rattle.model.specs.Runs.{Run, before, after, listing_of, next, refusal_of, book_at, old_base, new_base, Accepted, Banned, BanStart, CloseOf, charge_after}
 use Rattle.model.specs.Handbook.{Unmoved, UnmovedIsFree}
 use Rattle.model.proofs.Signs.{self_free}
 use Rattle.model.proofs.Places.{terms_stay, after_accepted}
-use Rattle.model.proofs.Ban.{net_same, closed_charge_is, closed_free, stock_after}
+use Rattle.model.proofs.Ban.{ban_begins, ban_ends, net_same, closed_charge_is, closed_free, stock_after}
 
 -- whether a ban is in force afterwards
 forced : (ban begins ends : Bool) → in_force (turn_of ban begins ends) ≡ cond ban (not ends) begins

@@ -18,7 +18,8 @@ use Rattle.reading.specs.Sheets.{weight_of, lacks_delta}
 use Rattle.reading.specs.Readings.{reading_of, interest, gross}
 use Rattle.reading.specs.Missing.{holds, missing}
 use Rattle.rules.specs.Limit.{limit_of}
-use Rattle.model.specs.Causes.{Answer, Verdict, unless, verdict_of, number_in}
+use Rattle.terms.specs.Causes.{Verdict, unless, verdict_of}
+use Rattle.model.specs.Causes.{Answer, number_in}
 use Rattle.model.specs.Opening.{Listing, Terms, is_open}
 use Rattle.model.specs.State.{Ledger, Marks, State, with_book, with_ticket}
 use Rattle.model.specs.Custody.{transferred, transfer_reply}
@@ -149,7 +150,7 @@ if_open s answer zero = cond (is_open s.terms) answer zero
 
 -- a stock's market-wide limit, 0 before it is set
 abbrev pub limit_answer : State → ℕ → ℕ
-limit_answer s u = if_open s (limit_in (s.ledger.stocks u).limit) 0
+limit_answer s u = if_open s (limit_in (s.ledger.stocks u)) 0
 
 -- whether a stock is in a ban
 abbrev pub ban_answer : State → ℕ → Bool

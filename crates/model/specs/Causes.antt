@@ -1,27 +1,14 @@
--- How a call is declined: a table of causes in order, of which the first that holds counts.
+-- The causes that calls have in common, and what a call answers.
 use Rattle.std.specs.Prelude.{ℕ, Bool, cond, not, List, [], ◌∷◌, ℤ, pos, Some, None, Ok, Err, Option, Result}
 use Rattle.terms.specs.declared.kind.Underlying.{Underlying as Sort}
 use Rattle.terms.specs.declared.refusal.Refusal.{Refusal}
 use Rattle.terms.specs.declared.refusal.Refusal.TheVariants.{Underlying, Kind, Delta, Value}
+use Rattle.terms.specs.Causes.{Verdict}
 use Rattle.model.specs.Opening.{Listing, is_listed, is_kind_at}
 
 -- what a call answers: a number, or why it was declined
 abbrev pub Answer : Type 0
 Answer = Result ℤ Refusal
-
--- whether a call is let through
-abbrev pub Verdict : Type 0
-Verdict = Result (Unit {0}) Refusal
-
--- declined for the first cause that holds, and otherwise as given
-abbrev pub unless : List (Bool × Refusal) → Verdict → Verdict
-unless [] v = v
-unless ((holds, why) ∷ more) v = cond holds (Err why) (unless more v)
-
--- let through if and only if there is a result
-abbrev pub verdict_of : {A : Type 0} → Result A Refusal → Verdict
-verdict_of (Ok a) = Ok tt
-verdict_of (Err why) = Err why
 
 -- DELTA with the first contract that lacks a needed delta and the first entity that needs it, and otherwise as given
 abbrev pub unless_missing : Option (ℕ × ℕ) → Verdict → Verdict

@@ -1,13 +1,9 @@
 -- Confirmation of a custodial trade: off the member, then onto the participant, both or neither.
 use Rattle.std.specs.Prelude.{neg_ℤ, Ok, Err}
+use Rattle.std.specs.Result.{result_and}
 use Rattle.terms.specs.declared.command.Trade.{Trade}
 use Rattle.book.specs.Holding.{Holding, reply, posted}
 use Rattle.model.specs.Causes.{Answer}
-
--- the second answer, unless the first posting was declined
-abbrev pub and_then : Answer → Answer → Answer
-and_then (Ok n) next = next
-and_then (Err why) next = Err why
 
 -- the book with the trade off the member
 abbrev pub off_member : Holding → Trade → Holding
@@ -20,7 +16,7 @@ transferred b d = posted (off_member b d) d.participant d.contract d.change
 -- the participant's new quantity, or the first posting's cause, or the second's
 abbrev pub transfer_reply : Holding → Trade → Answer
 transfer_reply b d =
-    and_then (reply b d.member d.contract (neg_ℤ d.change))
+    result_and (reply b d.member d.contract (neg_ℤ d.change))
     (reply (off_member b d) d.participant d.contract d.change)
 
 -- what a posting or a transfer with this answer leaves: a declined one leaves the book as it was

@@ -16,7 +16,8 @@ use Rattle.index.specs.Days.{no_day, awaits_snapshot, owes_cure, round_at, is_la
 use Rattle.index.specs.Values.{is_too_large}
 use Rattle.index.specs.Calls.{judged_by, told_by, cover_in, settled_by, final_by}
 use Rattle.index.specs.Sweeps.{swept, told_count}
-use Rattle.model.specs.Causes.{Verdict, unless, unless_missing, unless_too_large, kind_table}
+use Rattle.terms.specs.Causes.{Verdict, unless, checked}
+use Rattle.model.specs.Causes.{unless_missing, unless_too_large, kind_table}
 use Rattle.model.specs.Opening.{Listing, Terms}
 use Rattle.model.specs.Readings.{reading_at, is_unpriced}
 use Rattle.model.specs.State.{Quantities, Ledger, Marks, at, with_day}
@@ -61,7 +62,7 @@ of_cure l s u d = unless (kind_table l kind.Index u) (unless (cure_table (s.days
 
 -- no cover decides whether a settlement is declined
 abbrev pub of_settlement : Listing → Ledger → ℕ → Verdict
-of_settlement l s u = unless (kind_table l kind.Index u) (unless (settlement_table (s.days u)) (Ok tt))
+of_settlement l s u = unless (kind_table l kind.Index u) (checked (settlement_table (s.days u)))
 
 -- ---- the day
 

@@ -1,5 +1,6 @@
 -- What a monitor is opened over, and when it is open.
 use Rattle.std.specs.Prelude.{ℕ, Bool, true, false, not, ◌&&◌, List, length, ◌==◌, nat_le, nat_lt, slice_index_or}
+use Rattle.std.specs.Int.{is_in_range}
 use Rattle.std.specs.List.{list_all}
 use Rattle.terms.specs.declared.kind.Kind.{Kind}
 use Rattle.terms.specs.declared.kind.Kind.TheVariants.{Future, Call, Put}
@@ -42,10 +43,6 @@ terms_of o = terms_from (listing_from o.book.entities o.book.contracts o.contrac
 abbrev pub opening_from : Holding → List Contract → List Underlying → Limits → Opening
 opening_from b cs us limits = record { book = b; contracts = cs; underlyings = us; limits = limits }
 
--- n is at least low and at most high
-abbrev pub in_range : ℕ → ℕ → ℕ → Bool
-in_range low high n = nat_le low n && nat_le n high
-
 abbrev pub is_stock : Underlying → Bool
 is_stock Index = false
 is_stock Stock = true
@@ -79,10 +76,10 @@ all_sound us cs = list_all (sound_contract us) cs
 -- every condition under which a monitor is open
 abbrev pub is_open : Terms → Bool
 is_open t =
-    in_range 1 most_entities t.listing.entities
-    && in_range 1 most_contracts t.listing.places
+    is_in_range 1 most_entities t.listing.entities
+    && is_in_range 1 most_contracts t.listing.places
     && t.listing.places == length t.listing.contracts
-    && in_range 1 most_underlyings (length t.listing.underlyings)
+    && is_in_range 1 most_underlyings (length t.listing.underlyings)
     && all_sound t.listing.underlyings t.listing.contracts
-    && in_range 1 amount_bound t.limits.net
-    && in_range 1 amount_bound t.limits.gross
+    && is_in_range 1 amount_bound t.limits.net
+    && is_in_range 1 amount_bound t.limits.gross

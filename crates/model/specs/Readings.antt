@@ -1,10 +1,11 @@
 -- What entities hold in an underlying, at a source's deltas.
 use Rattle.std.specs.Prelude.{ℕ, Bool, not, ℤ}
+use Rattle.std.specs.Int.{is_in_range}
 use Rattle.terms.specs.Bounds.{price_bound}
 use Rattle.delta.specs.Sources.{Source}
 use Rattle.reading.specs.Sheets.{weight_of}
 use Rattle.reading.specs.Readings.{net, reading_of, interest}
-use Rattle.model.specs.Opening.{Listing, in_range}
+use Rattle.model.specs.Opening.{Listing}
 use Rattle.model.specs.State.{Quantities}
 
 -- the deltas of the underlying's contracts
@@ -25,4 +26,4 @@ interest_at l u d q = interest l.entities (weights l u d) q
 
 -- the source's price is out of range
 abbrev pub is_unpriced : Source → Bool
-is_unpriced d = not (in_range 1 price_bound d.price)
+is_unpriced d = not (is_in_range 1 price_bound d.price)

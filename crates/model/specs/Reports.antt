@@ -4,7 +4,8 @@ use Rattle.terms.specs.declared.kind.Underlying.TheVariants as kind
 use Rattle.terms.specs.declared.refusal.Refusal.TheVariants.{Full}
 use Rattle.index.specs.declared.report.Breach.{Breach}
 use Rattle.index.specs.Kept.{IsKept, Names}
-use Rattle.model.specs.Causes.{Answer, Verdict, unless, kind_table}
+use Rattle.terms.specs.Causes.{Verdict, unless, checked}
+use Rattle.model.specs.Causes.{Answer, kind_table}
 use Rattle.model.specs.Opening.{Terms}
 use Rattle.model.specs.State.{State}
 use Rattle.model.specs.Calls.{closed_table, decided}
@@ -12,7 +13,7 @@ use Rattle.model.specs.Calls.{closed_table, decided}
 -- CLOSED, UNDERLYING, KIND, and FULL where the rows are fewer than the breaches
 abbrev pub of_report : Terms → ℕ → ℕ → ℕ → Verdict
 of_report t u breaches rows =
-    unless (closed_table t) (unless (kind_table t.listing kind.Index u) (unless ((not (nat_le breaches rows), Full) ∷ []) (Ok tt)))
+    unless (closed_table t) (unless (kind_table t.listing kind.Index u) (checked ((not (nat_le breaches rows), Full) ∷ [])))
 
 -- what a report answers, and what it makes of the rows old; a question, so the monitor stays
 pub record Reported (s : State) (u : ℕ) (old : List Breach) (answer : Answer) (new : List Breach) : Type 0 where

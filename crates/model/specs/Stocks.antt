@@ -1,5 +1,5 @@
 -- The stock and its ban: what a close finds, and what it leaves.
-use Rattle.std.specs.Prelude.{ℕ, Bool, cond, not, ◌&&◌, ◌||◌, List, [], ◌∷◌, ℤ, Some, None, Ok, Option, ◌==◌, is_none}
+use Rattle.std.specs.Prelude.{ℕ, Bool, cond, not, ◌&&◌, ◌||◌, List, [], ◌∷◌, ℤ, Some, None, Ok, Option, ◌==◌, is_none, unwrap_or}
 use Rattle.terms.specs.Bounds.{two_minute, close_minute}
 use Rattle.terms.specs.declared.refusal.Refusal.{Refusal}
 use Rattle.terms.specs.declared.refusal.Refusal.TheVariants.{Unset, Time, Price}
@@ -11,7 +11,8 @@ use Rattle.rules.specs.Limit.{limit_asked}
 use Rattle.stock.specs.declared.turn.Turn.{Turn}
 use Rattle.stock.specs.Close.{turn_of, in_force, closed_base, closed_violated, closed_charge, charged_count}
 use Rattle.terms.specs.declared.kind.Underlying.TheVariants as kind
-use Rattle.model.specs.Causes.{Verdict, unless, unless_missing, verdict_of, kind_table}
+use Rattle.terms.specs.Causes.{Verdict, unless, verdict_of}
+use Rattle.model.specs.Causes.{unless_missing, kind_table}
 use Rattle.model.specs.Opening.{Listing}
 use Rattle.model.specs.Readings.{weights, interest_at, is_unpriced}
 use Rattle.model.specs.State.{Quantities, Stock, Ledger, at}
@@ -49,25 +50,18 @@ of_limit l u f ds = unless (kind_table l kind.Stock u) (verdict_of (limit_asked 
 
 -- ---- what a close finds
 
-abbrev pub limit_in : Option ℕ → ℕ
-limit_in None = 0
-limit_in (Some limit) = limit
+-- a stock's market-wide limit, 0 before it is set
+abbrev pub limit_in : Stock → ℕ
+limit_in k = unwrap_or k.limit 0
 
--- market interest is above 95% of the limit
-abbrev pub ban_begins : Listing → Ledger → ℕ → Source → Bool
-ban_begins l s u d = begins (limit_in (s.stocks u).limit) (interest_at l u d s.book.at)
-
--- market interest is at or below 80% of the limit
-abbrev pub ban_ends : Listing → Ledger → ℕ → Source → Bool
-ban_ends l s u d = ends (limit_in (s.stocks u).limit) (interest_at l u d s.book.at)
-
--- what becomes of a stock's ban at this market interest
+-- what becomes of a stock's ban: one begins where market interest is above 95% of the limit, and it ends where that is at
+-- or below 80%
 abbrev pub turn_by : Stock → ℕ → Turn
-turn_by k interest = turn_of k.ban (begins (limit_in k.limit) interest) (ends (limit_in k.limit) interest)
+turn_by k interest = turn_of k.ban (begins (limit_in k) interest) (ends (limit_in k) interest)
 
--- what becomes of the ban
+-- the same by the market interest at a source's deltas
 abbrev pub turn_at : Listing → Ledger → ℕ → Source → Turn
-turn_at l s u d = turn_of (s.stocks u).ban (ban_begins l s u d) (ban_ends l s u d)
+turn_at l s u d = turn_by (s.stocks u) (interest_at l u d s.book.at)
 
 -- how many are charged
 abbrev pub charged_at : Listing → Ledger → ℕ → Source → Source → ℕ

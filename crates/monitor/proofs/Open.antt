@@ -2,10 +2,10 @@
 use Rattle.std.proofs.Common.{◌≡◌, ℕ, zero, suc, ◌≤◌, Bool, true, false, cond, not, List, ◌∷◌, Ok, refl, arith}
 use Rattle.terms.specs.declared.refusal.Refusal.{Refusal}
 use Rattle.reading.specs.Sums.{count_below}
-use Rattle.model.specs.Causes.{unless}
+use Rattle.terms.specs.Causes.{checked}
 
 -- what a table lets through that asks whether the monitor is open
-pub is_open_by : (b : Bool) (w : Refusal) (t : List (Bool × Refusal)) → Ok tt ≡ unless ((not b, w) ∷ t) (Ok tt) → b ≡ true
+pub is_open_by : (b : Bool) (w : Refusal) (t : List (Bool × Refusal)) → Ok tt ≡ checked ((not b, w) ∷ t) → b ≡ true
 is_open_by true w t e = refl
 is_open_by false w t e = let z : ◌≡◌ {A = ℕ} 0 1 = cc in absurd (omega arith)
 

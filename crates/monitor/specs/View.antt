@@ -6,7 +6,7 @@ use Rattle.stock.specs.Close.{base_of, violated_in, charge_in}
 use Rattle.stock.specs.declared.violation.Violation.{Violation}
 use Rattle.index.specs.declared.day.Day.{Day}
 use Rattle.index.specs.Days.{no_day}
-use Rattle.index.specs.Marks.{no_row, four, four_of}
+use Rattle.index.specs.Sweeps.{rows_in}
 use Rattle.model.specs.declared.parts.IndexRecord.{IndexRecord}
 use Rattle.model.specs.declared.parts.StockRecord.{StockRecord}
 use Rattle.model.specs.Opening.{Terms}
@@ -40,7 +40,7 @@ abbrev pub stocks_of : List StockRecord → ℕ → Stock
 stocks_of ks u = stock_in (slice_index_or ks u no_record)
 
 abbrev pub marks_of : List IndexRecord → Marks
-marks_of is u e = four (slice_index_or (slice_index_or is u no_index).marks e (four_of no_row))
+marks_of is u = rows_in (slice_index_or is u no_index).marks
 
 abbrev pub ledger_of : Holding → Inner → Ledger
 ledger_of b s = record { book = b; base = base_of s.base.cells; tickets = tickets_of s.tickets; days = days_of s.indices; stocks = stocks_of s.stocks }

@@ -2,7 +2,7 @@
 ghost use Rattle.std.specs.Prelude.{◌≡◌, ◌<◌, ◌∷◌, ◌++◌, Ok, OnOk};
 ghost use Rattle.terms.specs.Bounds.{ticket_count};
 ghost use Rattle.book.specs.Holding.{inside};
-ghost use Rattle.model.specs.Causes.{unless};
+ghost use Rattle.terms.specs.Causes.{unless, checked};
 ghost use Rattle.model.specs.Calls.{post, entry, confirm, closed_table, entry_table, quantity_in, step};
 ghost use Rattle.monitor.specs.View.{state_of};
 
@@ -23,7 +23,7 @@ impl<'b, 't, B: Book> Monitor<'b, 't, B> {
 
     // The causes that decline an entry before the book is asked.
     fn admits_entry(&self, ticket: usize, trade: Trade) -> Result<(), Refusal>
-        ensures is { result ≡ unless (closed_table (state_of B.Holds.held self.now).terms) (unless (entry_table (state_of B.Holds.held self.now).ledger ticket trade) (Ok tt)) }
+        ensures is { result ≡ unless (closed_table (state_of B.Holds.held self.now).terms) (checked (entry_table (state_of B.Holds.held self.now).ledger ticket trade)) }
         ensures within { OnOk result (ticket < ticket_count) }
     {
         self.opened()?;

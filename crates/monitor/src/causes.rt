@@ -4,7 +4,8 @@ ghost use Rattle.terms.specs.Bounds.{most_entities};
 ghost use Rattle.delta.specs.Sources.{source_of};
 ghost use Rattle.reading.specs.Missing.{missing};
 ghost use Rattle.reading.specs.Views.{lacking_of};
-ghost use Rattle.model.specs.Causes.{unless, unless_missing, verdict_of, kind_table};
+ghost use Rattle.terms.specs.Causes.{unless, verdict_of, checked};
+ghost use Rattle.model.specs.Causes.{unless_missing, kind_table};
 ghost use Rattle.model.specs.Readings.{is_unpriced};
 ghost use Rattle.model.specs.Calls.{closed_table};
 ghost use Rattle.monitor.specs.View.{state_of};
@@ -39,7 +40,7 @@ pub(crate) fn none_missing<N: Needs>(who: &N, sheet: &Sheet, entities: usize) ->
 impl<'b, 't, B: Book> Monitor<'b, 't, B> {
     // CLOSED, unless the monitor is open.
     pub(crate) fn opened(&self) -> Result<(), Refusal>
-        ensures { result ≡ unless (closed_table (state_of B.Holds.held self.now).terms) (Ok tt) }
+        ensures { result ≡ checked (closed_table (state_of B.Holds.held self.now).terms) }
     {
         if self.fixed.live {
             Ok(())
@@ -55,7 +56,7 @@ impl<'b, 't, B: Book> Monitor<'b, 't, B> {
         underlying: usize,
         kind: Underlying,
     ) -> Result<UnderlyingNumber, Refusal>
-        ensures is { verdict_of result ≡ unless (closed_table (state_of B.Holds.held self.now).terms) (unless (kind_table (state_of B.Holds.held self.now).terms.listing kind underlying) (Ok tt)) }
+        ensures is { verdict_of result ≡ unless (closed_table (state_of B.Holds.held self.now).terms) (checked (kind_table (state_of B.Holds.held self.now).terms.listing kind underlying)) }
         ensures number { IfOk result (λ admitted. admitted.number ≡ underlying) }
         ensures entities { OnOk result ((state_of B.Holds.held self.now).terms.listing.entities ≤ most_entities) }
     {

@@ -6,7 +6,7 @@ ghost use Rattle.reading.specs.Views.{weights_of, lacking_of};
 ghost use Rattle.book.specs.Holding.{quantity_of};
 ghost use Rattle.reading.specs.Sheets.{within};
 ghost use Rattle.stock.specs.Close.{closed_base, charged_count, base_of};
-ghost use Rattle.model.specs.Causes.{unless};
+ghost use Rattle.terms.specs.Causes.{checked};
 ghost use Rattle.model.specs.State.{at};
 ghost use Rattle.model.specs.Stocks.{close_table, delta_verdict, turn_by, turned};
 ghost use Rattle.model.specs.Calls.{close, step};
@@ -36,7 +36,7 @@ fn is_untimely(banned: bool, two: u64, closing: u64) -> bool
 // UNSET, TIME, and PRICE for the closing price alone. The two o'clock source and the closing one are two parameters here and below:
 // a pair would have three types, one of sources, one of sheets, one of what these lack.
 fn admits_close<D: PricedDelta>(stock: &StockRecord, two: &D, closing: &D) -> Result<(), Refusal>
-    ensures { result ≡ unless (close_table (stock_in stock.now) (source_of D.Delta.answer D.PricedDelta.at D.PricedDelta.worth two.now) (source_of D.Delta.answer D.PricedDelta.at D.PricedDelta.worth closing.now)) (Ok tt) }
+    ensures { result ≡ checked (close_table (stock_in stock.now) (source_of D.Delta.answer D.PricedDelta.at D.PricedDelta.worth two.now) (source_of D.Delta.answer D.PricedDelta.at D.PricedDelta.worth closing.now)) }
 {
     if stock.limit.is_none() {
         return Err(Refusal::Unset);

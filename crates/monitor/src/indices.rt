@@ -4,7 +4,7 @@ ghost use Rattle.terms.specs.Bounds.{most_entities};
 ghost use Rattle.delta.specs.Sources.{source_of};
 ghost use Rattle.index.specs.Sweeps.{swept, told_count};
 ghost use Rattle.index.specs.Values.{reading_in, readings_below};
-ghost use Rattle.model.specs.Causes.{verdict_of};
+ghost use Rattle.terms.specs.Causes.{verdict_of};
 ghost use Rattle.model.specs.Indices.{of_reading};
 ghost use Rattle.model.specs.Readings.{weights};
 ghost use Rattle.model.specs.State.{at};

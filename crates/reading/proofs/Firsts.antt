@@ -5,7 +5,8 @@ use Rattle.std.proofs.lemmas.List.{length-take-le, get_or-take}
 use Rattle.std.proofs.lemmas.List.Sums.{position_or_len_is}
 use Rattle.std.proofs.lemmas.Bool.{cases_lt, le-ltb, lt-ltb, cond-true, both_ways, false≢true}
 use Rattle.terms.specs.Bounds.{most_contracts}
-use Rattle.reading.specs.Sums.{or_else, first_below}
+use Rattle.std.specs.Option.{option_or}
+use Rattle.reading.specs.Sums.{first_below}
 use Rattle.reading.specs.Missing.{first_needing, paired, with_first, missing, Missed, FirstMissing}
 
 -- the scan ends at i
@@ -21,14 +22,14 @@ first_at p i (suc n) l h t =
 pub same_below : (n : ℕ) (p q : ℕ → Bool) → ((i : ℕ) → i < n → p i ≡ q i) → first_below n p ≡ first_below n q
 same_below zero p q h = refl
 same_below (suc n) p q h =
-    ap₂ or_else (same_below n p q (λ i l. h i (omega arith))) (ap (λ (b : Bool). cond b (Some n) None) (h n (omega arith)))
+    ap₂ option_or (same_below n p q (λ i l. h i (omega arith))) (ap (λ (b : Bool). cond b (Some n) None) (h n (omega arith)))
 
 -- where a scan came to: no number below n passes, or k does and none below it
 abbrev Came : (ℕ → Bool) → ℕ → Option ℕ → Type 0
 Came p n None = (k : ℕ) → k < n → p k ≡ false
 Came p n (Some k) = (k < n) × (p k ≡ true) × ((j : ℕ) → j < k → p j ≡ false)
 
-step : (p : ℕ → Bool) (n : ℕ) (o : Option ℕ) (b : Bool) → p n ≡ b → Came p n o → Came p (suc n) (or_else o (cond b (Some n) None))
+step : (p : ℕ → Bool) (n : ℕ) (o : Option ℕ) (b : Bool) → p n ≡ b → Came p n o → Came p (suc n) (option_or o (cond b (Some n) None))
 step p n (Some k) b e r = (omega (arith, r.0), r.1, r.2)
 step p n None true e r = (omega arith, e, r)
 step p n None false e r =

@@ -12,7 +12,8 @@ use Rattle.terms.specs.declared.kind.Contract.{Contract}
 use Rattle.terms.specs.declared.kind.Kind.{Kind}
 use Rattle.delta.specs.Sources.{delta_bound, Lawful}
 use Rattle.delta.proofs.Sizes.{in_range_size}
-use Rattle.reading.specs.Sheets.{contract_at, within, delta_at, or_zero, weight_of, lacks_delta, delta_in}
+use Rattle.book.specs.Holding.{or_zero}
+use Rattle.reading.specs.Sheets.{contract_at, within, delta_at, weight_of, lacks_delta, delta_in}
 
 -- an array of the answers of f, which always answers as v does
 module _ {F A : Type 0} {g : Mut F (ℕ × Unit {0}) A} {f : F} (v : ℕ → A) (acts : ActsAs g f v) where

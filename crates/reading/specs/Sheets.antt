@@ -1,6 +1,7 @@
 -- What the contracts of an underlying weigh at the answers d of a delta source.
 use Rattle.std.specs.Prelude.{ℕ, Bool, cond, ◌&&◌, List, length, ℤ, pos, Some, None, Option, ◌==◌, nat_lt, slice_index_or, is_none}
 use Rattle.terms.specs.Bounds.{most_contracts}
+use Rattle.book.specs.Holding.{or_zero}
 use Rattle.terms.specs.declared.kind.Contract.{Contract}
 use Rattle.terms.specs.declared.kind.Kind.{Kind}
 use Rattle.terms.specs.declared.kind.Kind.TheVariants.{Future}
@@ -16,11 +17,6 @@ within cs u c = nat_lt c most_contracts && (nat_lt c (length cs) && (contract_at
 -- the delta of contract c at its kind, or none
 abbrev pub delta_at : List Contract → (ℕ → Kind → Option ℤ) → ℕ → Option ℤ
 delta_at cs d c = d c (contract_at cs c).kind
-
--- a delta, 0 where there is none
-abbrev pub or_zero : Option ℤ → ℤ
-or_zero None = pos 0
-or_zero (Some d) = d
 
 -- the same where contract c is of underlying u, and a weight of 0 where it is not
 abbrev pub delta_in : List Contract → ℕ → (ℕ → Kind → Option ℤ) → ℕ → Option ℤ

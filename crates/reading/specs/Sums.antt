@@ -1,5 +1,6 @@
 -- Sums, counts and firsts over the numbers below n.
 use Rattle.std.specs.Prelude.{ℕ, zero, suc, ◌+◌, Bool, cond, ℤ, pos, ◌+ℤ◌, Some, None, Option}
+use Rattle.std.specs.Option.{option_or}
 
 -- the sum of f over the numbers below n
 abbrev pub sum_below : ℕ → (ℕ → ℕ) → ℕ
@@ -15,12 +16,7 @@ total_below (suc n) f = total_below n f +ℤ f n
 abbrev pub count_below : ℕ → (ℕ → Bool) → ℕ
 count_below n p = sum_below n (λ i. cond (p i) 1 0)
 
--- the first answer, or else the second
-abbrev pub or_else : {X : Type 0} → Option X → Option X → Option X
-or_else None b = b
-or_else (Some a) b = Some a
-
 -- the first number below n that passes the test
 abbrev pub first_below : ℕ → (ℕ → Bool) → Option ℕ
 first_below zero p = None
-first_below (suc n) p = or_else (first_below n p) (cond (p n) (Some n) None)
+first_below (suc n) p = option_or (first_below n p) (cond (p n) (Some n) None)

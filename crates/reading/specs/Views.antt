@@ -1,7 +1,7 @@
 -- What a sheet says of each contract.
 use Rattle.std.specs.Prelude.{ℕ, Bool, ℤ, pos, Some, Option, is_none, slice_index_or}
 use Rattle.reading.specs.declared.sheet.Sheet.{Sheet}
-use Rattle.reading.specs.Sheets.{or_zero}
+use Rattle.book.specs.Holding.{or_zero}
 
 -- what a unit of contract c weighs, or none where it lacks a delta; past the last place it weighs nothing
 abbrev pub deltas_of : Sheet → ℕ → Option ℤ

@@ -1,7 +1,7 @@
 // The deltas of an underlying's contracts, each asked for once.
 ghost use Rattle.std.specs.Prelude.{ℕ, ◌≤◌, pos, slice_index_or, unsigned_abs, Some};
 ghost use Rattle.delta.specs.Sources.{delta_bound};
-ghost use Rattle.reading.specs.Sheets.{or_zero};
+ghost use Rattle.book.specs.Holding.{or_zero};
 
 use terms::bounds::MOST_CONTRACTS;
 

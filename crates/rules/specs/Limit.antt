@@ -1,5 +1,6 @@
 -- The market-wide limit of a stock, in units: by exact fractions, rounded down once at the end.
 use Rattle.std.specs.Prelude.{ℕ, ◌*◌, ◌/◌, ◌≤◌, Bool, cond, ◌&&◌, List, length, Ok, Err, sum, Result, nat_le, nat_lt}
+use Rattle.std.specs.Int.{is_in_range}
 use Rattle.std.specs.List.{list_all}
 use Rattle.terms.specs.declared.refusal.Refusal.{Refusal}
 use Rattle.terms.specs.declared.refusal.Refusal.TheVariants.{Input}
@@ -40,8 +41,7 @@ are_in_range daily = list_all (λ delivery. nat_le delivery delivery_most) daily
 
 -- the free float, the number of days and every delivery are in range
 abbrev pub is_accepted : ℕ → List ℕ → Bool
-is_accepted free daily =
-    nat_le float_least free && (nat_le free float_most && (nat_le days_least (length daily) && (nat_le (length daily) days_most && are_in_range daily)))
+is_accepted free daily = is_in_range float_least float_most free && is_in_range days_least days_most (length daily) && are_in_range daily
 
 -- what is answered: the limit, or that the input is out of range
 abbrev pub limit_asked : ℕ → List ℕ → Result ℕ Refusal

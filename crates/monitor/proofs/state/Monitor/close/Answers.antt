@@ -8,7 +8,8 @@ use Rattle.reading.specs.Readings.{interest}
 use Rattle.reading.specs.Sheets.{within, lacks_delta}
 use Rattle.stock.specs.Close.{closed_base, charged_count}
 use Rattle.model.specs.declared.parts.StockRecord.{StockRecord}
-use Rattle.model.specs.Causes.{Verdict, unless, kind_table}
+use Rattle.terms.specs.Causes.{Verdict, unless, checked}
+use Rattle.model.specs.Causes.{kind_table}
 use Rattle.model.specs.State.{State, Quantities, at}
 use Rattle.model.specs.Stocks.{close_table, delta_verdict, of_deltas, turn_by, turn_at, turned}
 use Rattle.model.specs.Calls.{close, closed_table}
@@ -40,7 +41,7 @@ returns-in_err-admits_close-clause-step g c =
     let two : Source = source_of g.D.Delta.answer g.D.PricedDelta.at g.D.PricedDelta.worth c.args.two.now in
     let d : Source = source_of g.D.Delta.answer g.D.PricedDelta.at g.D.PricedDelta.worth c.args.closing.now in
     let u = c.args.underlying in
-    let table = c.in_err-admits_close.ensures ∙ ap (λ (k : StockRecord). unless (close_table (stock_in k) two d) (Ok tt)) c.stock.ensures ∙ ap (λ (i : ℕ). unless (close_table (s.ledger.stocks i) two d) (Ok tt)) c.in_ok-stock.ensures.number in
+    let table = c.in_err-admits_close.ensures ∙ ap (λ (k : StockRecord). checked (close_table (stock_in k) two d)) c.stock.ensures ∙ ap (λ (i : ℕ). checked (close_table (s.ledger.stocks i) two d)) c.in_ok-stock.ensures.number in
     exit_by_rest s (close u two d) (causes s u) (others s u two d) refl c.from_residual-in_err-admits_close.result _ c.from_residual-in_err-admits_close.ensures.1 (sym c.in_ok-stock.ensures.is)
     (unless_err (close_table (s.ledger.stocks u) two d) (of_deltas s.terms.listing s.ledger u two d) _ (sym table))
 
@@ -50,7 +51,7 @@ returns-in_err-admits_deltas-clause-step g c =
     let two : Source = source_of g.D.Delta.answer g.D.PricedDelta.at g.D.PricedDelta.worth c.args.two.now in
     let d : Source = source_of g.D.Delta.answer g.D.PricedDelta.at g.D.PricedDelta.worth c.args.closing.now in
     let u = c.args.underlying in
-    let table = c.in_ok-admits_close.ensures ∙ ap (λ (k : StockRecord). unless (close_table (stock_in k) two d) (Ok tt)) c.stock.ensures ∙ ap (λ (i : ℕ). unless (close_table (s.ledger.stocks i) two d) (Ok tt)) c.in_ok-stock.ensures.number in
+    let table = c.in_ok-admits_close.ensures ∙ ap (λ (k : StockRecord). checked (close_table (stock_in k) two d)) c.stock.ensures ∙ ap (λ (i : ℕ). checked (close_table (s.ledger.stocks i) two d)) c.in_ok-stock.ensures.number in
     let deltas = c.in_err-admits_deltas.ensures ∙ (λ j. delta_verdict s.terms.listing.entities s.ledger (c.stock-2.ensures j).banned (c.sheet-at_two.ensures.lacking j) (c.sheet-at_close.ensures.lacking j)) ∙ ap (λ (i : ℕ). delta_verdict s.terms.listing.entities s.ledger (s.ledger.stocks i).ban (lacks_delta s.terms.listing.contracts u two.delta) (lacks_delta s.terms.listing.contracts u d.delta)) c.in_ok-stock.ensures.number in
     exit_by_rest s (close u two d) (causes s u) (others s u two d) refl c.from_residual-in_err-admits_deltas.result _ c.from_residual-in_err-admits_deltas.ensures.1 (sym c.in_ok-stock.ensures.is)
     (unless_ok (close_table (s.ledger.stocks u) two d) (of_deltas s.terms.listing s.ledger u two d) (sym table) ∙ sym deltas)
@@ -90,7 +91,7 @@ returns-clause-step g c =
     let stocks = t.stocks ∙ (λ j. at (num j) (turned n (turn j) (wt j) old q (c.price.ensures j) (s.ledger.stocks (num j))) s.ledger.stocks) in
     let few = charged_few g c in
     let number : to_z w64 c.close_stock-charged.result ≡ pos c.close_stock-charged.result = omega (arith, ints) in
-    let table = c.in_ok-admits_close.ensures ∙ ap (λ (k : StockRecord). unless (close_table (stock_in k) two d) (Ok tt)) c.stock.ensures ∙ ap (λ (i : ℕ). unless (close_table (s.ledger.stocks i) two d) (Ok tt)) c.in_ok-stock.ensures.number in
+    let table = c.in_ok-admits_close.ensures ∙ ap (λ (k : StockRecord). checked (close_table (stock_in k) two d)) c.stock.ensures ∙ ap (λ (i : ℕ). checked (close_table (s.ledger.stocks i) two d)) c.in_ok-stock.ensures.number in
     let deltas = c.in_ok-admits_deltas.ensures ∙ (λ j. delta_verdict n s.ledger (c.stock-2.ensures j).banned (c.sheet-at_two.ensures.lacking j) (c.sheet-at_close.ensures.lacking j)) ∙ ap (λ (i : ℕ). delta_verdict s.terms.listing.entities s.ledger (s.ledger.stocks i).ban (lacks_delta s.terms.listing.contracts u two.delta) (lacks_delta s.terms.listing.contracts u d.delta)) c.in_ok-stock.ensures.number in
     (λ j. (Ok ((number ∙ ap pos count) j), record { terms = s.terms; ledger = record { book = s.ledger.book; base = base j; tickets = tickets_of (t.rest.0 j); days = days_of (t.rest.1 j); stocks = stocks j }; marks = marks_of (t.rest.1 j) }))
     ∙ by_none s (close u two d) (causes s u) (others s u two d) refl (sym c.in_ok-stock.ensures.is)

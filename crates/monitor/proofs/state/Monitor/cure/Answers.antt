@@ -4,7 +4,7 @@ use Rattle.delta.specs.Sources.{Source, source_of}
 use Rattle.index.specs.declared.day.Day.{Day}
 use Rattle.index.specs.declared.calls.Rule.TheVariants.{Cure}
 use Rattle.index.specs.Days.{cured_day}
-use Rattle.model.specs.Causes.{unless}
+use Rattle.terms.specs.Causes.{checked}
 use Rattle.model.specs.Indices.{cure_table, of_reading}
 use Rattle.model.specs.State.{State}
 use Rattle.model.specs.Calls.{cure}
@@ -26,7 +26,7 @@ returns-in_err-admits_cure-clause-step g c =
     let d : Source = source_of g.D.Delta.answer g.D.PricedDelta.at g.D.PricedDelta.worth c.args.source.now in
     let u = c.args.underlying in
     let was = c.day-before.ensures ∙ ap s.ledger.days c.in_ok-index.ensures.number in
-    let table = c.in_err-admits_cure.ensures ∙ ap (λ (day : Day). unless (cure_table day d) (Ok tt)) was in
+    let table = c.in_err-admits_cure.ensures ∙ ap (λ (day : Day). checked (cure_table day d)) was in
     exit_by_second s (cure u d) (on_kind kind.Index s u) (cure_table (s.ledger.days u) d) (of_reading s.terms.listing s.ledger u d) refl c.from_residual-in_err-admits_cure.result _ c.from_residual-in_err-admits_cure.ensures.1 (sym c.in_ok-index.ensures.is) (sym table)
 
 pub returns-clause-step : goal.returns-clause-step
@@ -36,7 +36,7 @@ returns-clause-step g c =
     let u = c.args.underlying in
     let num = c.in_ok-index.ensures.number in
     let was = c.day-before.ensures ∙ ap s.ledger.days num in
-    let table = c.in_ok-admits_cure.ensures ∙ ap (λ (day : Day). unless (cure_table day d) (Ok tt)) was in
+    let table = c.in_ok-admits_cure.ensures ∙ ap (λ (day : Day). checked (cure_table day d)) was in
     let day = c.cured-day.ensures ∙ (λ j. cured_day (c.minute.ensures j) (was j)) in
     c.watch.ensures.step
     ∙ (λ j. watched_step Cure (day j) s (num j) d)

@@ -4,7 +4,8 @@ use Rattle.terms.specs.declared.kind.Underlying.TheVariants as kind
 use Rattle.index.specs.declared.report.Breach.{Breach}
 use Rattle.index.specs.Listing.{listing}
 use Rattle.index.proofs.Reports.{listed}
-use Rattle.model.specs.Causes.{Answer, Verdict}
+use Rattle.terms.specs.Causes.{Verdict}
+use Rattle.model.specs.Causes.{Answer}
 use Rattle.model.specs.State.{State}
 use Rattle.model.specs.Calls.{decided}
 use Rattle.model.proofs.Steps.{on_kind, unless_err}

@@ -3,7 +3,8 @@ use Rattle.terms.specs.declared.kind.Underlying.TheVariants as kind
 use Rattle.terms.specs.declared.refusal.Refusal.{Refusal}
 use Rattle.rules.specs.Limit.{limit_asked}
 use Rattle.model.specs.declared.parts.StockRecord.{StockRecord}
-use Rattle.model.specs.Causes.{Verdict, verdict_of, kind_table}
+use Rattle.terms.specs.Causes.{Verdict, verdict_of}
+use Rattle.model.specs.Causes.{kind_table}
 use Rattle.model.specs.State.{State, Stock, at}
 use Rattle.model.specs.Stocks.{with_limit}
 use Rattle.model.specs.Calls.{Call, set_limit, closed_table}

@@ -2,7 +2,7 @@ use Rattle.std.proofs.Common.{Ok, sym, refl, ap, ◌∙◌}
 use Rattle.terms.specs.declared.kind.Underlying.TheVariants as kind
 use Rattle.cover.specs.Covers.{Amounts}
 use Rattle.index.specs.declared.day.Day.{Day}
-use Rattle.model.specs.Causes.{unless}
+use Rattle.terms.specs.Causes.{checked}
 use Rattle.model.specs.Indices.{settlement_table}
 use Rattle.model.specs.State.{State}
 use Rattle.model.specs.Calls.{settle}
@@ -23,5 +23,5 @@ returns-in_err-admits_settlement-clause-step g c =
     let amounts : Amounts = g.C.Cover.amount c.args.cover.now in
     let u = c.args.underlying in
     let was = c.day-before.ensures ∙ ap s.ledger.days c.in_ok-index.ensures.number in
-    let table = c.in_err-admits_settlement.ensures ∙ ap (λ (day : Day). unless (settlement_table day) (Ok tt)) was in
+    let table = c.in_err-admits_settlement.ensures ∙ ap (λ (day : Day). checked (settlement_table day)) was in
     exit_by_second s (settle u amounts) (on_kind kind.Index s u) (settlement_table (s.ledger.days u)) (Ok tt) refl c.from_residual-in_err-admits_settlement.result _ c.from_residual-in_err-admits_settlement.ensures.1 (sym c.in_ok-index.ensures.is) (sym table)

@@ -8,7 +8,7 @@ use Rattle.index.specs.Sweeps.{swept, told_count}
 use Rattle.index.proofs.Table.{rows_by_table, told_by_table}
 use Rattle.index.specs.declared.mark.MarkRow.{MarkRow}
 use Rattle.terms.specs.declared.mark.Mark.{Mark}
-use Rattle.model.specs.Causes.{Verdict}
+use Rattle.terms.specs.Causes.{Verdict}
 use Rattle.model.specs.Indices.{watched, watched_count}
 use Rattle.model.specs.Readings.{weights}
 use Rattle.model.specs.State.{State, Quantities, at, with_day}

@@ -1,6 +1,7 @@
 use Rattle.std.proofs.Common.{is_none, ℕ, ◌≤◌, Bool, ℤ, pos, nat_abs, Some, Option, sym, ap, ◌∙◌, subst, rules}
 use Rattle.delta.specs.Sources.{delta_bound}
-use Rattle.reading.specs.Sheets.{or_zero, delta_in}
+use Rattle.book.specs.Holding.{or_zero}
+use Rattle.reading.specs.Sheets.{delta_in}
 use Rattle.reading.proofs.Sheets.{filled, weightless, delta_small, weights, lacks}
 use Rattle.reading.proofs.sheet.Sheet.new.Goals as goal
 
