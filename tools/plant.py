@@ -1,15 +1,22 @@
 #!/usr/bin/env python3
 """Plants bugs in the code of crates, one at a time, and says which of them the check still proves.
 
-usage: mutate.py OUTPUT CRATE[:N]...      (every Nth bug of the crate, or all; OUTPUT gets a line for each: crate, file, line,
-                                           verdict, old, new)
-       mutate.py --list CRATE...          (only counts them)
+usage: plant.py OUTPUT CRATE...                (bugs in each function of a crate, until two of its bugs were read by the check)
+       plant.py --each N OUTPUT CRATE...       (the same, N in each function; a crate may be CRATE:FUNCTION)
+       plant.py --from LIST OUTPUT [CRATE...]  (those that a list has of these crates, or all of the list: on each line the crate,
+                                               the function, the file, a text that stands once in it, and the text in its place)
+       plant.py --edits OUTPUT CRATE...        (a crate's must-fail edits; the gate proves each from nothing, and is the verdict)
+       plant.py --list CRATE...                (only counts the bugs that there are to plant, function by function)
 
-A bug is a changed operator, constant, argument order or variant, or a dropped statement, on one line of a function's body.
-Verdicts: refused (a fact fails), unread (it doesn't compile), PROVED (a contract that is too weak, or no bug at all).
-Work in a copy: the sources are changed and put back.
+OUTPUT gets a line for each bug: crate, function, whether that is public, file, line, verdict, old, new, what the check said.
+A bug is a changed operator, constant, condition, variant, field or text, exchanged arguments, or a dropped statement, on one
+line of a function's body. Verdicts: refused (a fact fails), unread (it doesn't compile), PROVED (a contract that is too weak,
+or no bug at all). Work in a copy: the sources are changed and put back.
 """
 import glob
+import itertools
+import os
+import random
 import re
 import subprocess
 import sys
@@ -17,105 +24,283 @@ import sys
 SWAPS = [(" < ", " <= "), (" <= ", " < "), (" > ", " >= "), (" >= ", " > "), (" == ", " != "), (" != ", " == "),
          (" && ", " || "), (" || ", " && "), (" + ", " - "), (" - ", " + "), (" * ", " + "), (" += ", " -= "),
          (".max(", ".min("), (".min(", ".max("), ("..=", ".."), ("true", "false"), ("false", "true"),
-         ("is_some", "is_none"), ("is_none", "is_some"), ("is_ok", "is_err"), ("is_err", "is_ok"),
-         ("Side::Long", "Side::Short"), ("Side::Short", "Side::Long"), ("Mark::NetLong", "Mark::GrossLong"),
-         ("Mark::NetShort", "Mark::NetLong"), ("Mark::GrossLong", "Mark::GrossShort"), ("Mark::GrossShort", "Mark::NetShort"),
-         ("Due::Snapshot", "Due::Cure"), ("Due::Cure", "Due::Settlement"), ("Due::Settlement", "Due::Snapshot"),
-         ("Round::Regular", "Round::Final"), ("Round::Final", "Round::Regular"), ("Kind::Call", "Kind::Put"),
-         ("Kind::Put", "Kind::Call"), ("Underlying::Stock", "Underlying::Index"), ("Underlying::Index", "Underlying::Stock"),
-         ("Refusal::Turn", "Refusal::Time"), ("Refusal::Time", "Refusal::Price"), ("Refusal::Price", "Refusal::Time"),
-         ("Refusal::Kind", "Refusal::Underlying"), ("Refusal::Underlying", "Refusal::Kind"), ("Refusal::Unset", "Refusal::Time"),
-         ("Refusal::Pair", "Refusal::Size"), ("Refusal::Size", "Refusal::Full"), ("Refusal::Full", "Refusal::Pair"),
-         ("Refusal::Ticket", "Refusal::Pair"), ("Refusal::Input", "Refusal::Full"), ("Refusal::ShortDay", "Refusal::Turn"),
-         ("Refusal::Closed", "Refusal::Ticket"), ("Rule::Sight", "Rule::Finish"), ("Rule::Finish", "Rule::Cure"),
-         ("Rule::Cure", "Rule::Finish"), ("limits.net", "limits.gross"), ("limits.gross", "limits.net"),
-         (".take(", ".skip("), (".first_missing(", ".first_missing("), ("member", "participant"), ("participant", "member"),
-         ("two", "closing"), ("closing", "two"), (".long", ".short"), ("entity", "underlying"), ("entities", "contracts")]
+         ("is_some", "is_none"), ("is_none", "is_some"), ("is_ok", "is_err"), ("is_err", "is_ok"), (".iter()", ".iter().skip(1)"),
+         (".is_some_and(", ".is_none_or("), (".is_none_or(", ".is_some_and("), (".take(", ".skip("), (".skip(", ".take("),
+         ("from_be_bytes", "from_le_bytes"), (".any(", ".all("), (".all(", ".any(")]
 
 
-def bodies(lines):
-    """The numbers of the lines that stand in a function's body."""
-    inside, depth, head = [], 0, False
-    for n, line in enumerate(lines):
+def is_part(text, at, end):
+    """Whether text[at:end] is only a part of a name."""
+    return (text[at].isalpha() and at > 0 and (text[at - 1].isalnum() or text[at - 1] == "_")) or \
+        (text[end - 1].isalpha() and end < len(text) and (text[end].isalnum() or text[end] == "_"))
+
+
+def replaced(code, old, new):
+    for m in re.finditer(re.escape(old), code):
+        if not is_part(code, m.start(), m.end()):
+            yield code[:m.start()] + new + code[m.end():]
+
+
+def groups():
+    """Names that stand for one another: an enum's variants that hold the same, and a struct's fields of one type."""
+    alike = []
+    for path in glob.glob("crates/*/src/*.rt"):
+        text = re.sub(r"//.*", "", open(path).read())
+        for m in re.finditer(r"\benum (\w+)[^{;]*\{(.*?)\n\}", text, re.S):
+            by_what = {}
+            for name, what in re.findall(r"^    (\w+)(\s*[({][^,]*)?,", m.group(2), re.M):
+                by_what.setdefault(what.strip(), []).append(f"{m.group(1)}::{name}")
+            alike += [names for names in by_what.values() if len(names) > 1]
+        for m in re.finditer(r"\bstruct (\w+)[^{;(]*\{(.*?)\n\}", text, re.S):
+            by_type = {}
+            for name, what in re.findall(r"^    (?:pub(?:\(crate\))? )?(\w+): ([^\n]*),$", m.group(2), re.M):
+                by_type.setdefault(what, []).append(f".{name}")
+            alike += [names for names in by_type.values() if len(names) > 1]
+    return alike
+
+
+def arguments(code):
+    """Each pair of neighbours in brackets, exchanged."""
+    for m in re.finditer(r"\(", code):
+        depth, parts, begin = 0, [], m.end()
+        for at in range(m.end(), len(code)):
+            c = code[at]
+            if c in "([{":
+                depth += 1
+            elif c in ")]}" and depth > 0:
+                depth -= 1
+            elif depth == 0 and c in ",)":
+                parts.append((begin, at))
+                begin = at + 2
+                if c == ")":
+                    break
+        else:
+            continue
+        for (a, b), (c, d) in zip(parts, parts[1:]):
+            if code[a:b] != code[c:d] and code[c:d]:
+                yield code[:a] + code[c:d] + code[b:c] + code[a:b] + code[d:]
+
+
+def without(code, begin):
+    """Each such call of a constructor, as the constructor of nothing."""
+    for m in re.finditer(re.escape(begin), code):
+        depth = 1
+        for at in range(m.end(), len(code)):
+            depth += (code[at] in "([{") - (code[at] in ")]}")
+            if depth == 0:
+                yield code[:m.start()] + "None" + code[at + 1:]
+                break
+
+
+def tails(code, text, answers):
+    """Another value in place of the whole of a last line."""
+    if not text or text.endswith((";", "}", ",")) or text.startswith(("}", ".", ")")):
+        return []
+    if answers == "bool":
+        return [code.replace(text, f"!({text})")]
+    if re.fullmatch(r"[iu](8|16|32|64|128|size)", answers):
+        return [code.replace(text, f"({text}).min(0)"), code.replace(text, f"({text}).max(1)")]
+    return [code.replace(text, "None")] if answers.startswith("Option") else []
+
+
+def changes(line, alike, is_tail, answers):
+    """The kinds of change that a line allows, each with the changed lines."""
+    code = line.split("//")[0].rstrip()
+    text = code.strip()
+    for old, new in SWAPS:
+        yield "operator", list(replaced(code, old, new))
+    for names in alike:
+        for k, name in enumerate(names):
+            other = names[(k + 1) % len(names)]
+            yield "neighbour", list(replaced(code, name, other))
+            if name[0] == "." and text == f"{name[1:]},":
+                yield "neighbour", [code.replace(text, f"{name[1:]}: {other[1:]},")]
+    yield "arguments", list(arguments(code))
+    yield "constant", [code[:m.start()] + str(int(m.group(1).replace("_", "")) + 1) + code[m.end():]
+                       for m in re.finditer(r"(?<![\w.])(\d[\d_]*)(?![\w.]*\")", code)]
+    yield "constant", [code[:m.start()] + f"({m.group(0)} + 1)" + code[m.end():] for m in re.finditer(r"\b[A-Z][A-Z_]{3,}\b", code)]
+    yield "text", [code[:m.end() - 1] + "s" + code[m.end() - 1:] for m in re.finditer(r'"[^"]*"', code)]
+    yield "condition", [code[:m.start(1)] + f"!({m.group(1)})" + code[m.end(1):] for m in re.finditer(r"\bif (?!let )(.*) \{$", code)]
+    yield "condition", [code[:m.start()] + code[m.end():] for m in re.finditer(r"(?<=[\s(])!(?=[a-z(])", code)]
+    yield "nothing", list(without(code, "Some("))
+    if is_tail:
+        yield "tail", tails(code, text, answers)
+    if text.endswith(";") and not text.startswith(("let ", "return", "break", "use ")) and ("=" in text or text.endswith((");", "?;"))):
+        yield "dropped", [""]
+
+
+def functions(path):
+    """Each function with a body: its name, whether it is public, the type of its answer, and the numbers of its body's lines."""
+    owner = name = body = None
+    head, public, trait = "", False, False
+    depth = 0
+    for n, line in enumerate(open(path).read().split("\n")):
         text = line.split("//")[0]
-        if depth == 0:
-            if re.match(r"\s*(pub(\(crate\))? )?(const )?fn ", text):
-                head = True
-            if head and re.match(r"\s*\{\s*$", text) or head and re.search(r"\)[^{}]*\{\s*$", text) and "ensures" not in text and "requires" not in text:
-                depth, head = 1, False
-            elif head and text.rstrip().endswith(";"):
-                head = False
+        if body is None:
+            m = re.match(r"(?:unsafe )?impl\b(?:<[^>]*>)?\s*(.*?)\s*(\{.*)?$", text)
+            if m:
+                parts = m.group(1).split(" for ")
+                trait = len(parts) > 1
+                owner = re.sub(r"<.*", "", parts[-1].split(" where ")[0]).strip("&{ ") + (f" ({parts[0].split('<')[0]})" if trait else "")
+            elif re.match(r"\S.*fn ", text):
+                owner, trait = None, False
+            m = re.match(r"\s*(pub(?:\(crate\))? )?(?:const )?(?:unsafe )?(?:extern \"C\" )?fn (\w+)", text)
+            if m:
+                name = f"{owner}::{m.group(2)}" if owner else m.group(2)
+                head, public = "", m.group(1) == "pub " or trait
+            if name:
+                head += text
+                if re.match(r"\s*\{\s*$", text) or re.search(r"\)[^{}]*\{\s*$", text) and "ensures" not in text and "requires" not in text:
+                    body, depth = [], 1
+                elif text.rstrip().endswith(";"):
+                    name = None
             continue
         depth += text.count("{") - text.count("}")
-        if depth > 0 and text.strip():
-            inside.append(n)
-    return inside
+        if depth == 0:
+            answers = re.search(r"\) -> ([^{]*?)\s*(?:ensures|requires|where|\{|$)", head)
+            yield name, public, answers.group(1).strip() if answers else "", body
+            name = body = None
+        elif text.strip():
+            body.append(n)
 
 
-def changes(line):
-    code = line.split("//")[0]
-    seen = set()
-    for old, new in SWAPS:
-        for at in [m.start() for m in re.finditer(re.escape(old), code)]:
-            if old[0].isalpha() and at and (code[at - 1].isalnum() or code[at - 1] == "_"):
-                continue
-            end = at + len(old)
-            if old[-1].isalpha() and end < len(code) and (code[end].isalnum() or code[end] == "_"):
-                continue
-            made = code[:at] + new + code[end:]
-            if made != code and made not in seen:
-                seen.add(made)
-                yield made
-    for m in re.finditer(r"(?<![\w.])(\d[\d_]*)(?![\w.]*\")", code):
-        made = code[:m.start()] + str(int(m.group(1).replace("_", "")) + 1) + code[m.end():]
-        if made not in seen:
-            seen.add(made)
-            yield made
-    for m in re.finditer(r"\(([^(),]+), ([^(),]+)\)", code):
-        made = code[:m.start()] + f"({m.group(2)}, {m.group(1)})" + code[m.end():]
-        if made != code and made not in seen:
-            seen.add(made)
-            yield made
-    for m in re.finditer(r"(?<=[\s(])!(?=[a-z(])", code):
-        yield code[:m.start()] + code[m.end():]
-    text = code.strip()
-    if text.endswith(";") and not text.startswith(("let ", "return", "break", "use ")) and ("=" in text or text.endswith(");")):
-        yield "\n"
-
-
-def bugs(crate):
-    for path in sorted(glob.glob(f"crates/{crate}/src/*.rt")):
-        lines = open(path).read().split("\n")
-        for n in bodies(lines):
-            for new in changes(lines[n]):
-                yield path, n, lines, new
+def bugs(path, body, answers, alike):
+    """A function's bugs, kinds taken in turn, in an order that chance gives and each run repeats."""
+    lines = open(path).read().split("\n")
+    by_kind, seen = {}, set()
+    for n in body:
+        for kind, made in changes(lines[n], alike, n == body[-1], answers):
+            for new in made:
+                if new != lines[n] and (n, new) not in seen:
+                    seen.add((n, new))
+                    by_kind.setdefault(kind, []).append((n, new))
+    chance = random.Random(path)
+    kinds = sorted(by_kind)
+    chance.shuffle(kinds)
+    # What turns a whole answer around is the easiest to refuse, so it comes last.
+    kinds.sort(key=lambda kind: kind in ("condition", "nothing", "tail"))
+    for kind in kinds:
+        chance.shuffle(by_kind[kind])
+    while any(by_kind.values()):
+        for kind in kinds:
+            if by_kind[kind]:
+                yield by_kind[kind].pop()
 
 
 def check(crate):
+    """What the check says of a crate, and the first message."""
     ran = subprocess.run(["rt", "check"], cwd=f"crates/{crate}", capture_output=True)
     out = (ran.stdout + ran.stderr).decode(errors="replace")
+    # The crates below print theirs first.
     last = [line for line in out.split("\n") if line.startswith("logic=")]
     if last and last[-1].startswith("logic=proved"):
-        return "PROVED"
-    return "refused" if "not proved that" in out or "did not prove" in out or "no proof" in out else "unread"
+        return "PROVED", ""
+    said = [line for line in out.split("\n") if re.search("not proved that|did not prove|no proof", line)]
+    if said:
+        return "refused", said[0].strip()
+    return "unread", next((line.strip() for line in out.split("\n") if "error" in line), "")
+
+
+# Each source that is written has a time of its own, as two of one length in one second look the same to the check.
+STAMPS = itertools.count(random.Random().randrange(10**8, 10**9))
+
+
+def write(path, text):
+    open(path, "w").write(text)
+    stamp = next(STAMPS)
+    os.utime(path, (stamp, stamp))
+
+
+def planted(crate, changed):
+    """What the check says of a crate with these texts in its files."""
+    kept = {path: open(path).read() for path in changed}
+    try:
+        for path, text in changed.items():
+            write(path, text)
+        return check(crate)
+    finally:
+        for path, text in kept.items():
+            write(path, text)
+
+
+def tell(out, crate, function, kind, path, line, verdict, old, new):
+    print(crate, function, kind, path.split("/")[-1], line, verdict[0], old.strip(), new.strip() or "(dropped)", verdict[1], sep="\t", file=out, flush=True)
+
+
+def kind_at(path, line):
+    return next(("public" if public else "private" for _, public, _, body in functions(path) if line - 1 in body), "elsewhere")
+
+
+def swapped(text, old, new):
+    assert text.count(old) == 1, f"the old text must stand once: {old}"
+    return text.replace(old, new), text[: text.index(old)].count("\n") + 1
+
+
+def listed(name, crates, out):
+    for line in open(name):
+        crate, function, file, old, new = line.rstrip("\n").split("\t")
+        if not crates or crate in crates:
+            path = f"crates/{crate}/src/{file}"
+            text, at = swapped(open(path).read(), old, new)
+            tell(out, crate, function, kind_at(path, at), path, at, planted(crate, {path: text}), old, new)
+
+
+def edits(crate, out):
+    """An edit names a file, and then old and new texts of it in pairs; it may go on with another file."""
+    for name in sorted(glob.glob(f"crates/{crate}/must-fail/*.edit")):
+        changed = {}
+        path = old = first = None
+        for line in open(name):
+            key, value = line.rstrip("\n").split(": ", 1)
+            if key == "file":
+                path = f"crates/{crate}/{value}"
+            elif key == "old":
+                old = value
+            else:
+                changed[path], at = swapped(changed.get(path) or open(path).read(), old, value)
+                first = first or (path, at, old, value)
+        path, at, old, new = first
+        tell(out, crate, name.split("/")[-1], kind_at(path, at), path, at, planted(crate, changed), old, new)
+
+
+def in_functions(word, each, listing, alike, out):
+    crate, _, wanted = word.partition(":")
+    for path in sorted(glob.glob(f"crates/{crate}/src/*.rt")):
+        for name, public, answers, body in list(functions(path)):
+            if wanted and wanted not in name:
+                continue
+            kind = "public" if public else "private"
+            there = list(bugs(path, body, answers, alike))
+            if listing:
+                print(crate, name, kind, len(there), sep="\t", file=out)
+                continue
+            read = 0
+            lines = open(path).read().split("\n")
+            for n, new in there[: 6 * each]:
+                if read == each:
+                    break
+                verdict = planted(crate, {path: "\n".join(lines[:n] + [new] + lines[n + 1:])})
+                read += verdict[0] != "unread"
+                tell(out, crate, name, kind, path, n + 1, verdict, lines[n], new)
 
 
 def main():
-    if sys.argv[1] == "--list":
-        for crate in sys.argv[2:]:
-            print(crate, sum(1 for _ in bugs(crate)))
+    words = sys.argv[1:]
+    each = 2
+    mode = words.pop(0) if words[0].startswith("--") else ""
+    if mode == "--each":
+        each = int(words.pop(0))
+    bug_list = words.pop(0) if mode == "--from" else None
+    out = sys.stdout if mode == "--list" else open(words.pop(0), "a")
+    if bug_list:
+        listed(bug_list, words, out)
         return
-    with open(sys.argv[1], "a") as out:
-        for word in sys.argv[2:]:
-            crate, _, every = word.partition(":")
-            for path, n, lines, new in list(bugs(crate))[:: int(every or 1)]:
-                kept = "\n".join(lines)
-                open(path, "w").write("\n".join(lines[:n] + [new.rstrip("\n")] + lines[n + 1:]))
-                try:
-                    verdict = check(crate)
-                finally:
-                    open(path, "w").write(kept)
-                print(crate, path.split("/")[-1], n + 1, verdict, lines[n].strip(), new.strip() or "(dropped)", sep="\t", file=out, flush=True)
+    alike = groups()
+    for word in words:
+        if mode == "--edits":
+            edits(word, out)
+        else:
+            in_functions(word, each, mode == "--list", alike, out)
 
 
 if __name__ == "__main__":
