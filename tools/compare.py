@@ -78,30 +78,25 @@ class Writer:
         r, n = self.r, len(self.contracts)
         e, c, t = edge(r, *range(self.e)), edge(r, *range(n)), edge(r, *range(16))
         change = edge(r, *range(-30, 31), *(n * 10**4 for n in range(-30, 31)), 10**9, -10**9)
-        way = r.random()
-        if way < 0.25:
-            return f"post {e} {c} {change}"
-        if way < 0.30:
-            return f"entry {t} {e} {edge(r, *range(self.e))} {c} {change}"
-        if way < 0.35:
-            return f"confirm {t}"
-        if way < 0.60:
-            return self.day()
-        if way < 0.61:
-            return f"settle {self.of('index')} {r.choice(['depository', 'cash', 'joint'])}"
-        if way < 0.69:
-            return f"report {self.of('index')} {edge(r, 0, 1, 4, 24, 512)}"
-        if way < 0.72:
-            return f"cash {e} {self.of('index')} {edge(r, 0, 10**8, 10**9, 10**10)}"
-        if way < 0.75:
-            return f"holding {e} {r.choice(['equity', 'equity', 'other'])} {edge(r, 1000, 10**5)} {edge(r, 100, 10000)}"
-        if way < 0.79:
-            return f"limit {self.of('stock')} {edge(r, 1000, 5000, 10**5)} " + " ".join(str(edge(r, 1, 5, 10, 2000)) for _ in range(r.randint(0, 4)))
-        if way < 0.87:
-            u = self.of("stock")
-            return f"close {u} {self.source(u, edge(r, 840))} / {self.source(u, edge(r, 930))}"
-        u = edge(r, *range(len(self.under)))
-        return "ask " + r.choice([
+        stock, index, any_one = self.of("stock"), self.of("index"), edge(r, *range(len(self.under)))
+        covers = ["depository", "cash", "joint"]
+        forms = [
+            (25, lambda: f"post {e} {c} {change}"),
+            (5, lambda: f"entry {t} {e} {edge(r, *range(self.e))} {c} {change}"),
+            (5, lambda: f"confirm {t}"),
+            (25, self.day),
+            (1, lambda: f"settle {index} {r.choice(covers)}"),
+            (8, lambda: f"report {index} {edge(r, 0, 1, 4, 24, 512)}"),
+            (3, lambda: f"cash {e} {index} {edge(r, 0, 10**8, 10**9, 10**10)}"),
+            (3, lambda: f"holding {e} {r.choice(['equity', 'equity', 'other'])} {edge(r, 1000, 10**5)} {edge(r, 100, 10000)}"),
+            (4, lambda: f"limit {stock} {edge(r, 1000, 5000, 10**5)} " + " ".join(str(edge(r, 1, 5, 10, 2000)) for _ in range(r.randint(0, 4)))),
+            (8, lambda: f"close {stock} {self.source(stock, edge(r, 840))} / {self.source(stock, edge(r, 930))}"),
+            (13, lambda: "ask " + self.question(e, c, any_one))]
+        return r.choices([form for _, form in forms], [weight for weight, _ in forms])[0]()
+
+    def question(self, e, c, u):
+        r = self.r
+        return r.choice([
             f"quantity {e} {c}", f"base {e} {c}", f"limit {u}", f"ban {u}", f"violated {u} {e}", f"charge {u} {e}",
             f"mark {u} {e} {r.choice(['net-long', 'net-short', 'gross-long', 'gross-short'])}",
             f"reading {u} notional", f"reading {u} {self.source(u, 600)}", f"notional {u}"])

@@ -4,14 +4,16 @@
 usage: plant.py OUTPUT CRATE...                (bugs in each function of a crate, until two of its bugs were read by the check)
        plant.py --each N OUTPUT CRATE...       (the same, N in each function; a crate may be CRATE:FUNCTION)
        plant.py --from LIST OUTPUT [CRATE...]  (those that a list has of these crates, or all of the list: on each line the crate,
-                                               the function, the file, a text that stands once in it, and the text in its place)
+                                               the function, the file, a text that stands once in it, and the text in its place,
+                                               with \\n where a line ends)
        plant.py --edits OUTPUT CRATE...        (a crate's must-fail edits; the gate proves each from nothing, and is the verdict)
        plant.py --list CRATE...                (only counts the bugs that there are to plant, function by function)
 
 OUTPUT gets a line for each bug: crate, function, whether that is public, file, line, verdict, old, new, what the check said.
 A bug is a changed operator, constant, condition, variant, field or text, exchanged arguments, or a dropped statement, on one
-line of a function's body. Verdicts: refused (a fact fails), unread (it doesn't compile), PROVED (a contract that is too weak,
-or no bug at all). Work in a copy: the sources are changed and put back.
+line of a function's body. Verdicts: refused (a fact fails), unread (it doesn't compile), gone (a written answer names what isn't
+there any more, which tells nothing), PROVED (a contract that is too weak, or no bug at all). Work in a copy: the sources are
+changed and put back. The player has no contracts: its bugs are tried on the gate's journals alone, and are found by test or PASSED.
 """
 import glob
 import itertools
@@ -188,17 +190,18 @@ def bugs(path, body, answers, alike):
 
 
 def check(crate):
-    """What the check says of a crate, and the first message."""
+    """What the check says of a crate, and the first message that decides it."""
     ran = subprocess.run(["rt", "check"], cwd=f"crates/{crate}", capture_output=True)
-    out = (ran.stdout + ran.stderr).decode(errors="replace")
-    # The crates below print theirs first.
-    last = [line for line in out.split("\n") if line.startswith("logic=")]
-    if last and last[-1].startswith("logic=proved"):
+    lines = (ran.stdout + ran.stderr).decode(errors="replace").split("\n")
+    if ran.returncode == 0:
         return "PROVED", ""
-    said = [line for line in out.split("\n") if re.search("not proved that|did not prove|no proof", line)]
-    if said:
-        return "refused", said[0].strip()
-    return "unread", next((line.strip() for line in out.split("\n") if "error" in line), "")
+    # A fact is open, or a written answer is one to another fact.
+    for verdict, said in [("refused", "not proved that|did not prove|no proof"), ("refused", "error: .*as printed, the two"),
+                          ("unread", r"^src/.*error"), ("gone", "error")]:
+        found = [line.strip() for line in lines if re.search(said, line)]
+        if found:
+            return verdict, found[0]
+    return "unread", ""
 
 
 # Each source that is written has a time of its own, as two of one length in one second look the same to the check.
@@ -211,20 +214,38 @@ def write(path, text):
     os.utime(path, (stamp, stamp))
 
 
+def play(program):
+    """What the gate's input to a program makes of one that is built as it stands, with nothing proved."""
+    home = f"crates/{program}"
+    data = [word for path in sorted(glob.glob(f"{home}/data/*")) for word in ("--data", f"{os.path.basename(path)}={os.path.relpath(path, home)}")]
+    stdin = open(f"{home}/stdin") if os.path.exists(f"{home}/stdin") else subprocess.DEVNULL
+    ran = subprocess.run(["rt", "try", program, "--steps", "1", *data, "--", *open(f"{home}/args").read().split()], cwd=home, stdin=stdin, capture_output=True)
+    if b"run=" not in ran.stdout + ran.stderr:
+        return "unread", ""
+    wanted = open(f"{home}/stdout", "rb").read()
+    return ("PASSED", "") if ran.stdout == wanted else ("by test", program)
+
+
+def check_or_play(crate):
+    """The player promises nothing, so only what the programs print can tell."""
+    return check(crate) if crate != "player" else play("checks")
+
+
 def planted(crate, changed):
     """What the check says of a crate with these texts in its files."""
     kept = {path: open(path).read() for path in changed}
     try:
         for path, text in changed.items():
             write(path, text)
-        return check(crate)
+        return check_or_play(crate)
     finally:
         for path, text in kept.items():
             write(path, text)
 
 
 def tell(out, crate, function, kind, path, line, verdict, old, new):
-    print(crate, function, kind, path.split("/")[-1], line, verdict[0], old.strip(), new.strip() or "(dropped)", verdict[1], sep="\t", file=out, flush=True)
+    old, new = (" ".join(text.split()) for text in (old, new))
+    print(crate, function, kind, path.split("/")[-1], line, verdict[0], old, new or "(dropped)", verdict[1], sep="\t", file=out, flush=True)
 
 
 def kind_at(path, line):
@@ -238,7 +259,7 @@ def swapped(text, old, new):
 
 def listed(name, crates, out):
     for line in open(name):
-        crate, function, file, old, new = line.rstrip("\n").split("\t")
+        crate, function, file, old, new = (word.replace("\\n", "\n").replace("\\\n", "\\n") for word in line.rstrip("\n").split("\t"))
         if not crates or crate in crates:
             path = f"crates/{crate}/src/{file}"
             text, at = swapped(open(path).read(), old, new)
@@ -267,7 +288,7 @@ def in_functions(word, each, listing, alike, out):
     crate, _, wanted = word.partition(":")
     for path in sorted(glob.glob(f"crates/{crate}/src/*.rt")):
         for name, public, answers, body in list(functions(path)):
-            if wanted and wanted not in name:
+            if wanted and wanted != name:
                 continue
             kind = "public" if public else "private"
             there = list(bugs(path, body, answers, alike))
@@ -280,7 +301,7 @@ def in_functions(word, each, listing, alike, out):
                 if read == each:
                     break
                 verdict = planted(crate, {path: "\n".join(lines[:n] + [new] + lines[n + 1:])})
-                read += verdict[0] != "unread"
+                read += verdict[0] in ("refused", "PROVED")
                 tell(out, crate, name, kind, path, n + 1, verdict, lines[n], new)
 
 

@@ -52,9 +52,5 @@ pub(crate) fn charges(rt: &HostRuntime, rounds: u64) -> anyhow::Result<Measured>
             digest.note(charge(stock.violated, stock.price));
         }
     }
-    let nanos = start.elapsed(rt)?.as_nanos();
-    Ok(Measured {
-        digest: digest.value,
-        nanos,
-    })
+    digest.measured(rt, start)
 }

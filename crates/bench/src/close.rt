@@ -57,9 +57,5 @@ pub(crate) fn close<B: Book>(
     for _ in 0..rounds {
         ban(&mut monitor, &mut noise, two, closing, &mut digest);
     }
-    let nanos = start.elapsed(rt)?.as_nanos();
-    Ok(Measured {
-        digest: digest.value,
-        nanos,
-    })
+    digest.measured(rt, start)
 }

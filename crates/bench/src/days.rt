@@ -92,9 +92,5 @@ pub(crate) fn days<B: Book>(
             (round % MOST_ENTITIES as u64) as usize,
         );
     }
-    let nanos = start.elapsed(rt)?.as_nanos();
-    Ok(Measured {
-        digest: digest.value,
-        nanos,
-    })
+    digest.measured(rt, start)
 }

@@ -1,9 +1,10 @@
 // A running digest of answers, so that none is left out.
+use std::time::Instant;
 use terms::refusal::Refusal;
 
 #[derive(Drop)]
 pub(crate) struct Digest {
-    pub(crate) value: u64,
+    value: u64,
 }
 
 // A row's digest, and how long its rounds took.
@@ -27,5 +28,14 @@ impl Digest {
             Ok(value) => value.cast_unsigned(),
             Err(cause) => 1_000 + u64::from(cause.number()),
         });
+    }
+
+    // The row, whose rounds began at `start` and end now.
+    pub(crate) fn measured(self, rt: &HostRuntime, start: Instant) -> anyhow::Result<Measured> {
+        let nanos = start.elapsed(rt)?.as_nanos();
+        Ok(Measured {
+            digest: self.value,
+            nanos,
+        })
     }
 }

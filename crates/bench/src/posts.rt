@@ -59,9 +59,5 @@ pub(crate) fn posts<B: Book>(
             digest.answer(monitor.post(post.entity, post.contract, post.change));
         }
     }
-    let nanos = start.elapsed(rt)?.as_nanos();
-    Ok(Measured {
-        digest: digest.value,
-        nanos,
-    })
+    digest.measured(rt, start)
 }

@@ -90,25 +90,10 @@ module _ (b : Holding) (from to c : ℕ) (z q : ℤ) (x : Refusal) (sound : Soun
   still : posted (posted b from c (neg_ℤ z)) to c z ≡ posted b from c (neg_ℤ z)
   still = posted_declined (posted b from c (neg_ℤ z)) to c z x on
 
-  pub put_back_answer : reply (posted (posted b from c (neg_ℤ z)) to c z) from c z ≡ Ok (quantity_of b from c)
-  put_back_answer =
-      ap₂ (λ d y. reply d from c y) still (sym (twice_neg z)) ∙ undo_answer b from c (neg_ℤ z) q sound off
-
   pub put_back : posted (posted (posted b from c (neg_ℤ z)) to c z) from c z ≡ b
   put_back = ap₂ (λ d y. posted d from c y) still (sym (twice_neg z)) ∙ undo b from c (neg_ℤ z) q sound off
 
--- the same, of the books as three calls leave them: off by y, which is the opposite of z, declined at the other pair, and back by z
-pub restored : (b b₁ b₂ b₃ : Holding) (from to c : ℕ) (y z q : ℤ) (x : Refusal) → Sound b → y ≡ neg_ℤ z → Ok q ≡ reply b from c y → b₁ ≡ posted b from c y → Err x ≡ reply b₁ to c z → b₂ ≡ posted b₁ to c z → b₃ ≡ posted b₂ from c z → b₃ ≡ b
-restored b b₁ b₂ b₃ from to c y z q x sound neg off s₁ on s₂ s₃ =
-    let t : b₁ ≡ posted b from c (neg_ℤ z) = s₁ ∙ ap (posted b from c) neg in
-    s₃
-    ∙ (ap (λ d. posted d from c z) (s₂ ∙ ap (λ d. posted d to c z) t)
-    ∙ put_back b from to c z q x sound (sym (off ∙ ap (reply b from c) neg)) (sym (on ∙ ap (λ d. reply d to c z) t)))
-
 -- ---- the opposite of a change, as it is computed
-pub negated : (z : ℤ) → nat_abs z ≤ 2 * quantity_bound → SFits w64 (pos 0 -ℤ z)
-negated z h = omega (arith, ints)
-
 pub opposite : (z : ℤ) → nat_abs z ≤ 2 * quantity_bound → to_z w64 (of_z w64 (pos 0 -ℤ to_z w64 (of_z w64 z))) ≡ neg_ℤ z
 opposite z h = ap (λ y. to_z w64 (of_z w64 (pos 0 -ℤ y))) same ∙ back
   where

@@ -12,7 +12,3 @@ pub in_range_size : (k : Kind) (d : ℤ) → InRange k d → nat_abs d ≤ delta
 in_range_size Future d h = let p = and_parts (le_z (pos delta_bound) d) (le_z d (pos delta_bound)) h in omega (arith, ints)
 in_range_size Call d h = let p = and_parts (le_z (pos 0) d) (le_z d (pos delta_bound)) h in omega (arith, ints)
 in_range_size Put d h = let p = and_parts (le_z (neg_ℤ (pos delta_bound)) d) (le_z d (pos 0)) h in omega (arith, ints)
-
--- and so is every lawful answer
-pub lawful_size : (k : Kind) (o : Option ℤ) (d : ℤ) → Some d ≡ o → Lawful k o → nat_abs d ≤ delta_bound
-lawful_size k o d e h = in_range_size k d (subst (Lawful k) (sym e) h)

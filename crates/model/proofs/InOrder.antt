@@ -57,12 +57,6 @@ module _ (r : Run) (u : ℕ) where
       let s = one_snapshot r k u f.source d (subst (λ (i : ℕ). Accepted r i (snapshot u f.source)) q f.last.accepted) a in
       differ (sym f.final ∙ ap (λ (x : Source). round_at x.minute) s ∙ g)
 
-  earlier_by : (k : ℕ) (f : Finished r (suc k) u) → (f.place ≡ k → ⊥) → f.place < k
-  earlier_by k f n = ⊎_elim (λ q. absurd (n q)) (λ q. let h = f.last.earlier in omega arith) (cases_eq f.place k)
-
-  snapshot_at : (k : ℕ) (f : Finished r (suc k) u) → f.place ≡ k → Accepted r k (snapshot u f.source)
-  snapshot_at k f q = subst (λ (i : ℕ). Accepted r i (snapshot u f.source)) q f.last.accepted
-
   abbrev finished_back : (k : ℕ) → ((d : Source) → Accepted r k (snapshot u d) → ⊥) → Finished r (suc k) u → Finished r k u
   finished_back k n f = record {
     place = f.place;

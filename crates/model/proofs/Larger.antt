@@ -5,6 +5,7 @@ use Rattle.terms.specs.declared.mark.Mark.{Mark}
 use Rattle.terms.specs.declared.mark.Mark.TheVariants.{NetLong, NetShort, GrossLong, GrossShort}
 use Rattle.terms.specs.Marks.{side_of}
 use Rattle.delta.specs.Sources.{Source, EqualSources}
+use Rattle.delta.proofs.Equal.{same_source}
 use Rattle.cover.specs.Covers.{Amounts, NowhereSmaller}
 use Rattle.index.specs.Days.{round_at}
 use Rattle.index.specs.Marks.{limit_for}
@@ -15,7 +16,7 @@ use Rattle.model.specs.Calls.{Call, snapshot, cure, settle}
 use Rattle.model.specs.Runs.{Run, before, refusal_at, Accepted}
 use Rattle.model.specs.Breaches.{value_at, Over, LastSnapshot, Unsettled, ProvisionalAt, at_final, at_cure, Breached, LargestBreach, FinalAt}
 use Rattle.model.specs.Handbook.{Same, same, snapshots, cures, settlements, SameCalls, none, more, Larger, MarksTellTheTruth, LargerAddsNoBreach}
-use Rattle.model.proofs.Limits.{source_path, listing_same, ledger_same, refusal_same, agree}
+use Rattle.model.proofs.Limits.{listing_same, ledger_same, refusal_same, agree}
 
 -- ---- the like of a call in the other list
 
@@ -96,7 +97,7 @@ module _ (r r' : Run) (larger : Larger r r') where
 
   values : (k u : ℕ) (d d' : Source) (e : ℕ) (m : Mark) → EqualSources d d' → value_at r k u d e m ≡ value_at r' k u d' e m
   values k u d d' e m q =
-      λ i. value_for (reading_at (listing_same NowhereSmaller r r' larger.alike i) u (source_path q i) (ledgers k i).book.at e) (source_path q i).price m
+      λ i. value_for (reading_at (listing_same NowhereSmaller r r' larger.alike i) u (same_source q i) (ledgers k i).book.at e) (same_source q i).price m
 
   over_from : (k u : ℕ) (d d' : Source) (e : ℕ) (m : Mark) → EqualSources d d' → Over r' k u d' e m → Over r k u d e m
   over_from k u d d' e m q v = record {

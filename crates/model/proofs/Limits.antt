@@ -6,6 +6,7 @@ use Rattle.terms.specs.declared.refusal.Refusal.TheVariants.{Closed}
 use Rattle.book.proofs.Equal.{equal_is_same, same_is_equal}
 use Rattle.cover.specs.Covers.{Amounts}
 use Rattle.delta.specs.Sources.{Source, EqualSources}
+use Rattle.delta.proofs.Equal.{same_source}
 use Rattle.terms.specs.Causes.{Verdict}
 use Rattle.model.specs.Causes.{cause_in}
 use Rattle.model.specs.Opening.{Listing, Terms, listing_from, terms_of, is_open}
@@ -16,9 +17,6 @@ use Rattle.model.specs.Handbook.{Same, same, snapshots, cures, settlements, clos
 use Rattle.model.proofs.Places.{terms_stay}
 
 -- ---- calls that are the same but for sources equal in meaning, and for covers
-
-pub source_path : {d d' : Source} → EqualSources d d' → d ≡ d'
-source_path h = λ i. record { delta = λ c k. h.answers c k i; minute = h.minutes i; price = h.prices i }
 
 -- a call without its cover
 bare : Call → Call
@@ -44,10 +42,10 @@ unlooked w l (close u two d) = refl
 bare_path : {R : Amounts → Amounts → Type 0} {c c' : Call} → Same R c c' → bare c ≡ bare c'
 unfolding bare
 bare_path same = refl
-bare_path (snapshots {u = u} p) = ap (λ (d : Source). snapshot u d) (source_path p)
-bare_path (cures {u = u} p) = ap (λ (d : Source). cure u d) (source_path p)
+bare_path (snapshots {u = u} p) = ap (λ (d : Source). snapshot u d) (same_source p)
+bare_path (cures {u = u} p) = ap (λ (d : Source). cure u d) (same_source p)
 bare_path (settlements h) = refl
-bare_path (closes {u = u} p q) = ap₂ (λ (a b : Source). close u a b) (source_path p) (source_path q)
+bare_path (closes {u = u} p q) = ap₂ (λ (a b : Source). close u a b) (same_source p) (same_source q)
 
 nth_path : {R : Amounts → Amounts → Type 0} {cs cs' : List Call} → SameCalls R cs cs' → (k : ℕ) → option_map bare (slice_get cs k) ≡ option_map bare (slice_get cs' k)
 nth_path none k = refl

@@ -61,9 +61,6 @@ base_turns s u (Ok ok) n (close v two d) =
     (cases_eq v u)
 
 module _ (r : Run) (u s e : ℕ) (is_in_range : ltb e (listing_of r).entities ≡ true) where
-  abbrev OfU : ℕ → Type 0
-  OfU c = within r.opening.contracts u c ≡ true
-
   abbrev Kept : ℕ → Type 0
   Kept i = (c : ℕ) → within r.opening.contracts u c ≡ true → old_base r i e c ≡ book_at r s e c
 

@@ -30,6 +30,13 @@ impl<W: Write + Drop> Notices<W> {
         self.tally.count_line();
     }
 
+    // A notice of the line.
+    fn tell<T: Display + Drop>(&mut self, what: T) -> anyhow::Result<()> {
+        let n = self.tally.lines;
+        writeln!(self.out, "{n} {what}")?;
+        Ok(())
+    }
+
     pub(crate) fn malformed(&mut self, fault: Fault) -> anyhow::Result<()> {
         self.tally.count_malformed();
         let n = self.tally.lines;
@@ -38,9 +45,7 @@ impl<W: Write + Drop> Notices<W> {
     }
 
     pub(crate) fn declared(&mut self) -> anyhow::Result<()> {
-        let n = self.tally.lines;
-        writeln!(self.out, "{n} declared")?;
-        Ok(())
+        self.tell("declared")
     }
 
     pub(crate) fn opened(&mut self, shape: Shape) -> anyhow::Result<()> {
@@ -55,18 +60,13 @@ impl<W: Write + Drop> Notices<W> {
     }
 
     pub(crate) fn not_opened(&mut self) -> anyhow::Result<()> {
-        let n = self.tally.lines;
-        writeln!(self.out, "{n} not open")?;
-        Ok(())
+        self.tell("not open")
     }
 
     // The answer to a call.
     pub(crate) fn called(&mut self, answer: Result<i64, Refusal>) -> anyhow::Result<()> {
         self.tally.count_call(answer.is_ok());
-        let n = self.tally.lines;
-        let told = Told(answer);
-        writeln!(self.out, "{n} {told}")?;
-        Ok(())
+        self.tell(Told(answer))
     }
 
     // The answer to a question.
@@ -78,17 +78,12 @@ impl<W: Write + Drop> Notices<W> {
 
     // The answer to a question that lacks something. Questions are not counted.
     pub(crate) fn declined(&mut self, refusal: Refusal) -> anyhow::Result<()> {
-        let n = self.tally.lines;
-        let told = Told(Err(refusal));
-        writeln!(self.out, "{n} {told}")?;
-        Ok(())
+        self.tell(Told(Err(refusal)))
     }
 
     // A line that is taken and answers nothing.
     pub(crate) fn taken(&mut self) -> anyhow::Result<()> {
-        let n = self.tally.lines;
-        writeln!(self.out, "{n} ok")?;
-        Ok(())
+        self.tell("ok")
     }
 
     // What is kept of a mark.

@@ -1,11 +1,10 @@
 -- How large a limit is: at least 10% and at most 15% of the free float.
-use Rattle.std.proofs.Common.{◌≡◌, ℕ, ◌*◌, ◌<◌, ◌≤◌, Bool, true, false, cond, List, Ok, Err, sym, refl, ap, ◌∙◌, mul-le-mul_right, mul_assoc, mul_comm, div-mul-le_self, le_of_mul-le-mul_right, arith}
+use Rattle.std.proofs.Common.{◌≡◌, ℕ, ◌*◌, ◌<◌, ◌≤◌, true, List, sym, ap, ◌∙◌, mul-le-mul_right, mul_assoc, mul_comm, div-mul-le_self, le_of_mul-le-mul_right, arith}
 use Rattle.std.proofs.lemmas.Nat.{le-div}
 use Rattle.std.proofs.lemmas.Bool.{cond_both, ltb-true, ltb-false}
-use Rattle.terms.specs.declared.refusal.Refusal.TheVariants.{Input}
 use Rattle.rules.specs.declared.fraction.Fraction.{Fraction}
 use Rattle.rules.specs.Bounds.{float_most, floor_share, ceiling_share}
-use Rattle.rules.specs.Limit.{below, larger, smaller, rounded_down, share, averages_of, limit_of, is_accepted, limit_asked, LimitFacts}
+use Rattle.rules.specs.Limit.{below, larger, smaller, rounded_down, share, averages_of, limit_of, is_accepted, LimitFacts}
 use Rattle.rules.proofs.Deliveries.{accepted}
 
 -- rounding keeps the order of two fractions
@@ -51,10 +50,3 @@ limit_facts free daily h =
 pub limit_bounded : (free : ℕ) (daily : List ℕ) → is_accepted free daily ≡ true → limit_of free daily ≤ float_most
 limit_bounded free daily h = let f = limit_facts free daily h in omega (arith, f.small)
 
--- so is a limit that is answered
-pub asked_bounded : (free : ℕ) (daily : List ℕ) (granted : ℕ) → limit_asked free daily ≡ Ok granted → granted ≤ float_most
-asked_bounded free daily granted = go (is_accepted free daily) refl
-  where
-    go : (b : Bool) → is_accepted free daily ≡ b → cond b (Ok (limit_of free daily)) (Err Input) ≡ Ok granted → granted ≤ float_most
-    go true h e = let same : limit_of free daily ≡ granted = cc in omega (arith, same, limit_bounded free daily h)
-    go false h e = let never : ◌≡◌ {A = ℕ} 0 1 = cc in omega arith
