@@ -82,8 +82,11 @@ pub record Sighted (r : Run) (k u e : ℕ) (m : Mark) : Type 0 where
 -- a provisional breach at place k, at these deltas: a final snapshot at which the mark is over, or a cure at which it is
 -- over and was over at the index's last accepted snapshot before
 pub data ProvisionalAt (r : Run) (k u : ℕ) (d : Source) (e : ℕ) (m : Mark) : Type 0 where
-  at_final : Accepted r k (snapshot u d) → round_at d.minute ≡ Some Final → Over r k u d e m → ProvisionalAt r k u d e m
-  at_cure : Accepted r k (cure u d) → Over r k u d e m → (j : ℕ) (d' : Source) → LastSnapshot r k u j d' → Over r j u d' e m → ProvisionalAt r k u d e m
+  at_final : Accepted r k (snapshot u d) → round_at d.minute ≡ Some Final → Over r k u d e m
+      → ProvisionalAt r k u d e m
+  at_cure : Accepted r k (cure u d) → Over r k u d e m
+      → (j : ℕ) (d' : Source) → LastSnapshot r k u j d' → Over r j u d' e m
+      → ProvisionalAt r k u d e m
 
 -- a provisional breach: a place, an entity and a mark
 pub record Provisional (r : Run) (k e : ℕ) (m : Mark) : Type 0 where

@@ -38,7 +38,8 @@ pub data Same (R : Amounts → Amounts → Type 0) : Call → Call → Type 0 wh
   snapshots : {u : ℕ} {d d' : Source} → EqualSources d d' → Same R (snapshot u d) (snapshot u d')
   cures : {u : ℕ} {d d' : Source} → EqualSources d d' → Same R (cure u d) (cure u d')
   settlements : {u : ℕ} {a a' : Amounts} → R a a' → Same R (settle u a) (settle u a')
-  closes : {u : ℕ} {two two' d d' : Source} → EqualSources two two' → EqualSources d d' → Same R (close u two d) (close u two' d')
+  closes : {u : ℕ} {two two' d d' : Source} → EqualSources two two' → EqualSources d d'
+      → Same R (close u two d) (close u two' d')
 
 pub data SameCalls (R : Amounts → Amounts → Type 0) : List Call → List Call → Type 0 where
   none : SameCalls R [] []
@@ -90,13 +91,17 @@ LargerAddsNoBreach = (r r' : Run) → Larger r r' → (k : ℕ) → NoneAdded r 
 -- at place k, of an index
 pub record InOrder (r : Run) (k u : ℕ) : Type 0 where
   -- while a cure is owed no other call of its day is accepted
-  pub cure_first : (j : ℕ) (d : Source) → Owed r k u j d → ((d' : Source) → Accepted r k (snapshot u d') → ⊥) × ((c : Amounts) → Accepted r k (settle u c) → ⊥)
+  pub cure_first : (j : ℕ) (d : Source) → Owed r k u j d
+      → ((d' : Source) → Accepted r k (snapshot u d') → ⊥) × ((c : Amounts) → Accepted r k (settle u c) → ⊥)
   -- a cure is one that is owed, exactly so many minutes after its snapshot
-  pub cures_owed : (d : Source) → Accepted r k (cure u d) → (j : ℕ) × (s : Source) × Owed r k u j s × (d.minute ≡ s.minute + cure_minutes)
+  pub cures_owed : (d : Source) → Accepted r k (cure u d)
+      → (j : ℕ) × (s : Source) × Owed r k u j s × (d.minute ≡ s.minute + cure_minutes)
   -- nothing but the settlement follows the final snapshot
-  pub final : Finished r k u → ((d : Source) → Accepted r k (snapshot u d) → ⊥) × ((d : Source) → Accepted r k (cure u d) → ⊥)
+  pub final : Finished r k u
+      → ((d : Source) → Accepted r k (snapshot u d) → ⊥) × ((d : Source) → Accepted r k (cure u d) → ⊥)
   -- what is settled has its final snapshot, and snapshots enough since the settlement before
-  pub settlement : (c : Amounts) → Accepted r k (settle u c) → Finished r k u × ((n : ℕ) × HowMany (Taken r k u) k n × (snapshots_least ≤ n))
+  pub settlement : (c : Amounts) → Accepted r k (settle u c)
+      → Finished r k u × ((n : ℕ) × HowMany (Taken r k u) k n × (snapshots_least ≤ n))
 
 -- every index's day does
 abbrev pub DaysGoInOrder : Type 0
@@ -113,10 +118,14 @@ pub record AnswersHowMany (r : Run) (k : ℕ) (P : ℕ → Mark → Type 0) : Ty
 -- a regular snapshot answers how many marks are over, a final one and a cure how many are provisional breaches there, a
 -- settlement how many are final ones
 pub record AnswersCount (r : Run) (k u : ℕ) : Type 0 where
-  pub regular : (d : Source) → Accepted r k (snapshot u d) → round_at d.minute ≡ Some Regular → AnswersHowMany r k (Over r k u d)
-  pub final : (d : Source) → Accepted r k (snapshot u d) → round_at d.minute ≡ Some Final → AnswersHowMany r k (ProvisionalAt r k u d)
-  pub cure : (d : Source) → Accepted r k (cure u d) → AnswersHowMany r k (ProvisionalAt r k u d)
-  pub settlement : (c : Amounts) → Accepted r k (settle u c) → AnswersHowMany r k (λ e m. (v : ℕ) × FinalAt r k u c e m v)
+  pub regular : (d : Source) → Accepted r k (snapshot u d) → round_at d.minute ≡ Some Regular
+      → AnswersHowMany r k (Over r k u d)
+  pub final : (d : Source) → Accepted r k (snapshot u d) → round_at d.minute ≡ Some Final
+      → AnswersHowMany r k (ProvisionalAt r k u d)
+  pub cure : (d : Source) → Accepted r k (cure u d)
+      → AnswersHowMany r k (ProvisionalAt r k u d)
+  pub settlement : (c : Amounts) → Accepted r k (settle u c)
+      → AnswersHowMany r k (λ e m. (v : ℕ) × FinalAt r k u c e m v)
 
 -- every such answer is that number
 abbrev pub AnswersTellTheTruth : Type 0
@@ -140,7 +149,9 @@ MarksTellTheTruth = (r : Run) (k u e : ℕ) (m : Mark) → Truthful r k u e m ((
 -- a list of what is kept of an index, as a report writes it, names exactly the final breaches of its last settlement
 abbrev pub ReportsTellTheTruth : Type 0
 ReportsTellTheTruth =
-    (r : Run) (k u : ℕ) (list : List Breach) → Names (IsKept r.opening.book.entities ((before r k).marks u)) list → Names (λ b. Stands r k u b.entity b.mark b.largest) list
+    (r : Run) (k u : ℕ) (list : List Breach)
+    → Names (IsKept r.opening.book.entities ((before r k).marks u)) list
+    → Names (λ b. Stands r k u b.entity b.mark b.largest) list
 
 -- ---- whoever does not move is never charged
 
@@ -148,24 +159,31 @@ ReportsTellTheTruth =
 -- start
 abbrev pub Unmoved : Run → ℕ → ℕ → ℕ → ℕ → Type 0
 Unmoved r u s k e =
-    (j : ℕ) (two closing : Source) → j ≤ k → CloseOf r u s j two closing → (c : ℕ) → within r.opening.contracts u c ≡ true → book_at r j e c ≡ book_at r s e c
+    (j : ℕ) (two closing : Source) → j ≤ k → CloseOf r u s j two closing
+    → (c : ℕ) → within r.opening.contracts u c ≡ true
+    → book_at r j e c ≡ book_at r s e c
 
 -- such an entity is charged at none of those closes, whatever the deltas and prices
 abbrev pub UnmovedIsFree : Type 0
 UnmovedIsFree =
-    (r : Run) (u s k e : ℕ) → Unmoved r u s k e → (j : ℕ) (two closing : Source) → j ≤ k → CloseOf r u s j two closing → charge_after r j u e ≡ 0
+    (r : Run) (u s k e : ℕ) → Unmoved r u s k e
+    → (j : ℕ) (two closing : Source) → j ≤ k → CloseOf r u s j two closing
+    → charge_after r j u e ≡ 0
 
 -- ---- a ban only lets positions shrink
 
 -- at each close of a ban every new base lies, at that day's two o'clock deltas, between zero and the old one
 abbrev pub BaseShrinks : Type 0
 BaseShrinks =
-    (r : Run) (u s k : ℕ) (two closing : Source) → CloseOf r u s k two closing → (e : ℕ) → Between (net_at (listing_of r) u two (old_base r k) e) (net_at (listing_of r) u two (new_base r k) e)
+    (r : Run) (u s k : ℕ) (two closing : Source) → CloseOf r u s k two closing
+    → (e : ℕ) → Between (net_at (listing_of r) u two (old_base r k) e) (net_at (listing_of r) u two (new_base r k) e)
 
 -- and if nobody is charged there, market interest at those deltas is at most the old base's
 abbrev pub MarketShrinks : Type 0
 MarketShrinks =
-    (r : Run) (u s k : ℕ) (two closing : Source) → CloseOf r u s k two closing → ((e : ℕ) → e < r.opening.book.entities → charge_after r k u e ≡ 0) → interest_at (listing_of r) u two (book_at r k) ≤ interest_at (listing_of r) u two (old_base r k)
+    (r : Run) (u s k : ℕ) (two closing : Source) → CloseOf r u s k two closing
+    → ((e : ℕ) → e < r.opening.book.entities → charge_after r k u e ≡ 0)
+    → interest_at (listing_of r) u two (book_at r k) ≤ interest_at (listing_of r) u two (old_base r k)
 
 -- ---- nothing but calls changes a monitor or its book
 
@@ -180,7 +198,8 @@ TermsStay = (r : Run) (k : ℕ) → (before r k).terms ≡ terms_of r.opening
 -- the quantity of a pair changes only at a call that posts to it
 abbrev pub OnlyPostingsMove : Type 0
 OnlyPostingsMove =
-    (r : Run) (k e c : ℕ) → posted_at (before r k).ledger (slice_get r.calls k) e c ≡ false → book_at r k e c ≡ (after r k).ledger.book.at e c
+    (r : Run) (k e c : ℕ) → posted_at (before r k).ledger (slice_get r.calls k) e c ≡ false
+    → book_at r k e c ≡ (after r k).ledger.book.at e c
 
 -- all laws
 pub record Handbook : Type 0 where
