@@ -13,13 +13,16 @@ use Rattle.book.specs.Listed.{proper, listed, Stored}
 abbrev pub bit : ℤ → ℕ
 bit z = cond (is_zero z) 0 1
 
+-- it is at most one
 pub bit_le : (z : ℤ) → bit z ≤ 1
 bit_le z = cond_both (is_zero z) 0 1 (λ n. n ≤ 1) (λ _. omega arith) (λ _. omega arith)
 
+-- no more than n of n values are not zero
 pub nonzero_le : (f : ℕ → ℤ) (n : ℕ) → nonzero f n ≤ n
 nonzero_le f zero = omega arith
 nonzero_le f (suc n) = let h = nonzero_le f n in let k = bit_le (f n) in omega arith
 
+-- no more pairs are not zero than there are
 pub nonzeros_le : (f : ℕ → ℕ → ℤ) (e c : ℕ) → nonzeros f e c ≤ e * c
 nonzeros_le f zero c = omega arith
 nonzeros_le f (suc e) c =
@@ -31,6 +34,7 @@ nonzeros_le f (suc e) c =
 pub place_lt : (e c i j n : ℕ) → e * c ≤ n → i < e → j < c → i * c + j < n
 place_lt e c i j n h l m = omega (arith, mul-add-lt i c j e l m)
 
+-- every grid is sound
 pub grid_sound : (e c : ℕ) (cells : List ℤ) → ((k : ℕ) → k < e * c → unsigned_abs (slice_index_or cells k (pos 0)) ≤ quantity_bound) → Sound (gridded e c cells)
 unfolding gridded count
 grid_sound e c cells h = record {
@@ -44,6 +48,7 @@ grid_sound e c cells h = record {
   few = nonzeros_le (gridded e c cells).at e c;
 }
 
+-- every list is sound
 pub list_sound : (e c : ℕ) (t : Table ℤ) → Stored e c t → Sound (listed e c t)
 unfolding listed count
 list_sound e c t s = record {

@@ -6,11 +6,13 @@ use Rattle.terms.specs.declared.kind.Kind.TheVariants.{Future, Call, Put}
 use Rattle.delta.specs.Sources.{delta_bound, half_delta, in_range, InRange, Lawful}
 use Rattle.delta.specs.Makes.{notional, admitted, call_at, struck, put_of, settled_at}
 
+-- the notional source keeps the law
 pub notional_lawful : (n : ℕ) (k : Kind) → Lawful k (notional n k)
 notional_lawful n Future = refl
 notional_lawful n Call = refl
 notional_lawful n Put = refl
 
+-- a published source does
 pub admitted_lawful : (k : Kind) (row : Option ℤ) → Lawful k (admitted k row)
 admitted_lawful k None = tt
 admitted_lawful k (Some d) = cond_both (in_range k d) (Some d) None (Lawful k) (λ t. t) (λ _. tt)
@@ -21,6 +23,7 @@ call_each P a b c price strike =
     cond_both (nat_lt strike price) (pos delta_bound) (cond (strike == price) (pos half_delta) (pos 0)) P (λ _. a)
     (λ _. cond_both (strike == price) (pos half_delta) (pos 0) P (λ _. b) (λ _. c))
 
+-- a settlement source does
 pub settled_lawful : (price : ℕ) (k : Kind) (strike : Option ℕ) → Lawful k (settled_at price k strike)
 settled_lawful price Future strike = refl
 settled_lawful price Call None = tt

@@ -23,10 +23,11 @@ run_of one other calls = record {
   calls = calls;
 }
 
--- the two o'clock source and the closing one, both at 10,000 paise
+-- the two o'clock source, at 10,000 paise
 abbrev pub two : List ℤ → Source
 two deltas = priced 840 10000 deltas
 
+-- the closing one
 abbrev pub closing : List ℤ → Source
 closing deltas = priced 930 10000 deltas
 
@@ -40,9 +41,11 @@ close_at deltas = close stock (two deltas) (closing deltas)
 abbrev pub deliveries : List ℕ
 deliveries = 10 ∷ 11 ∷ 11 ∷ []
 
+-- its limit is set, at place 0
 abbrev pub limited : Run
 limited = run_of kind.Future kind.Future (set_limit stock 5000 deliveries ∷ [])
 
+-- the limit that follows
 pub record MarketLimit : Type 0 where
   -- 65 times the average of 10 2/3 is 693 1/3, rounded down at the end; with the average rounded first it would be 650
   pub limit : limit_of 5000 deliveries ≡ 693
@@ -74,6 +77,7 @@ bounds =
 abbrev pub found_at : ℕ → ℕ × Bool
 found_at place = (interest_at (listing_of bounds) stock (closing fine) (book_at bounds place), ban_after bounds place)
 
+-- in ten-thousandths of a unit, and whether there is a ban then
 pub record BanBounds : Type 0 where
   -- 950 units begin no ban
   pub at_95 : found_at 2 ≡ (9500000, false)
@@ -195,6 +199,7 @@ returned =
     ∷ close_full
     ∷ [])
 
+-- what each of them comes to
 pub record Misreadings : Type 0 where
   -- from -10 to 2 is no decrease, although 2 is smaller in size: it is charged
   pub crossed : charge_after traded 11 stock 1 ≡ 500000

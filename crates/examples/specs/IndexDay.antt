@@ -60,6 +60,7 @@ at_50000 = priced 600 5000000 (pos 10000 ∷ pos 3541 ∷ [])
 abbrev pub brink : Run
 brink = run_of (post 0 0 (bought 1000000) ∷ post 1 1 (bought 2824061) ∷ snapshot index at_50000 ∷ [])
 
+-- what is worth a net limit
 pub record NetLimit : Type 0 where
   -- 2,360,000 calls at half a unit are 11,80,000 units net
   pub net : net_in above 1 (at_minute 600) 0 ≡ pos 11800000000
@@ -104,16 +105,19 @@ day_of cover =
     ∷ settle index cover
     ∷ []
 
+-- such a day over a cover
 abbrev pub settled_over : Amounts → Run
 settled_over cover = run_of (day_of cover)
 
--- 310 crore of cash, and one paisa less
+-- 310 crore of cash
 abbrev pub covered : Run
 covered = settled_over (cash (310 * crore))
 
+-- one paisa less
 abbrev pub uncovered : Run
 uncovered = settled_over (cash (310 * crore - 1))
 
+-- what the two settlements find
 pub record Settlement : Type 0 where
   -- three cures and the final snapshot have made the mark provisional
   pub count : (mark_after covered 7 0 NetLong).count ≡ 4
@@ -132,6 +136,7 @@ pub record Settlement : Type 0 where
 abbrev pub taken_at : ℕ → Run
 taken_at minute = run_of (large ∷ snapshot index (at_minute minute) ∷ [])
 
+-- what a snapshot is by its minute
 pub record Minutes : Type 0 where
   -- a snapshot at 14:44 is regular
   pub regular : round_at 884 ≡ Some Regular

@@ -22,6 +22,7 @@ even amount entity underlying side = amount
 abbrev pub day_under : ℕ → ℕ → Run
 day_under net cover = run_under (net * crore) (day_of (even (cover * crore)))
 
+-- the premises of the law about larger limits and covers
 pub record LargerIsMet : Type 0 where
   -- a net limit of 5,400 crore in place of 5,000, all else alike
   pub by_limit : Larger (day_under 5000 0) (day_under 5400 0)
@@ -57,6 +58,7 @@ held =
 abbrev pub full : List ℤ
 full = pos 10000 ∷ pos 10000 ∷ []
 
+-- those of the law about who does not move
 pub record BanIsMet : Type 0 where
   -- three closes of one ban
   pub first : CloseOf held stock 3 5 (ban.two full) (ban.closing full)

@@ -8,6 +8,7 @@ use Rattle.model.specs.Calls.{post, reading_answer, interest_answer, notional_an
 use Rattle.model.specs.Runs.{Run, outcome}
 use Rattle.examples.specs.Words.{stock, contract, bought, sold, crore, priced}
 
+-- four clients, and what each trades
 abbrev pub clients : Run
 clients = record {
   opening = record {
@@ -39,6 +40,7 @@ deltas = priced 930 10000 (pos 10000 ∷ pos 5000 ∷ neg_ℤ (pos 5000) ∷ [])
 abbrev pub reading : ℕ → ℤ × ℤ × ℤ
 reading client = reading_answer (outcome clients) stock deltas.delta client
 
+-- what they hold
 pub record FourClients : Type 0 where
   -- 300 units net, all long
   pub client_0 : reading 0 ≡ (pos 3000000, pos 3000000, pos 0)

@@ -4,6 +4,7 @@ use Rattle.examples.specs.IndexDay.{NetLimit, Settlement, Minutes}
 use Rattle.examples.specs.Premises.{LargerIsMet, BanIsMet, MarketIsMet}
 use Rattle.examples.specs.Ban.{MarketLimit, BanBounds, Violations, Charges, Misreadings}
 
+-- each group of examples
 pub record WorkedExamples : Type 0 where
   -- four clients' net, long and short, and what the market's come to
   pub four_clients : FourClients

@@ -27,6 +27,7 @@ meant priced amount (Settle u c) = settle u (amount c)
 meant priced amount (SetLimit u f ds) = set_limit u f ds.now
 meant priced amount (Close u two d) = close u (priced two) (priced d)
 
+-- the calls that a list of requests stands for
 abbrev pub calls : {D C : Type 0} → (D → Source) → (C → Amounts) → List (Request D C) → List Call
 calls priced amount rs = map (meant priced amount) rs
 

@@ -1,13 +1,15 @@
 -- The numbers that an index's day rests on, each under one name. src/bounds.rt has the same names.
 use Rattle.std.specs.Prelude.{ℕ}
 
--- a snapshot at first_minute to below final_minute, from midnight, is regular, and at final_minute to last_minute final
+-- a snapshot from this minute of the day on is regular
 abbrev pub first_minute : ℕ
 first_minute = 555
 
+-- a snapshot from this minute on is final
 abbrev pub final_minute : ℕ
 final_minute = 885
 
+-- no snapshot is permitted after this minute
 abbrev pub last_minute : ℕ
 last_minute = 930
 

@@ -31,10 +31,11 @@ abbrev pub begins : List ℕ → List (List ℕ) → Bool
 begins name [] = false
 begins name (w ∷ ws) = bytes_eq w name
 
--- a word as a number, and as an unsigned one
+-- a word as a number
 abbrev pub numeral : List ℕ → Result ℤ Fault
 numeral w = ok_or (number_of w) NotNumber
 
+-- a word as an unsigned number
 abbrev pub unsigned_numeral : List ℕ → Result ℕ Fault
 unsigned_numeral w = ok_or (unsigned_of w) NotNumber
 

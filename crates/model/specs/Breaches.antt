@@ -1,4 +1,5 @@
 -- The index's day as facts about places of a run. What a monitor keeps of marks and days plays no part here.
+-- Letters: r run, k, j and i places, u underlying, d source, c cover, e entity, m mark, v value.
 use Rattle.std.specs.Prelude.{◌≡◌, ℕ, suc, ◌+◌, ◌*◌, ◌<◌, ◌≤◌, Bool, true, ◌⊎◌, ◌↔◌, Some}
 use Rattle.terms.specs.declared.mark.Mark.{Mark}
 use Rattle.terms.specs.Marks.{side_of}

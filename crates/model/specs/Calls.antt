@@ -1,4 +1,6 @@
 -- The calls: the causes of refusal in the table's order, the answers, and what an accepted call makes of a monitor.
+-- Letters: t terms, l listing, s ledger or state, b book; e entity, c contract, x change, k ticket, d trade of a ticket;
+-- u underlying, d and two sources, c cover, f free float, ds deliveries; m mark.
 use Rattle.std.specs.Prelude.{ℕ, Bool, false, cond, not, List, [], ◌∷◌, ℤ, pos, is_some, Some, None, Ok, Err, Option, ◌==◌, nat_lt}
 use Rattle.terms.specs.Bounds.{ticket_count}
 use Rattle.terms.specs.declared.command.Trade.{Trade}
@@ -26,6 +28,7 @@ use Rattle.model.specs.Custody.{transferred, transfer_reply}
 use Rattle.model.specs.Indices.{of_snapshot, of_cure, of_settlement, round_of, snapped_day, cured_at, cleared_day, watched, watched_count, settled_marks, final_count}
 use Rattle.model.specs.Stocks.{of_limit, of_close, limit_in, charged_at, closed, limited}
 
+-- a call: all that changes a monitor
 pub data Call : Type 0 where
   post : (entity contract : ℕ) (change : ℤ) → Call
   entry : (ticket : ℕ) (trade : Trade) → Call
@@ -60,6 +63,7 @@ abbrev pub of_confirm : Ledger → Option Trade → Verdict
 of_confirm s None = Err Ticket
 of_confirm s (Some d) = verdict_of (transfer_reply s.book d)
 
+-- the causes of each call, behind CLOSED
 abbrev pub of_call : Listing → Ledger → Call → Verdict
 of_call l s (post e c x) = verdict_of (reply s.book e c x)
 of_call l s (entry k d) = of_entry s k d
@@ -70,6 +74,7 @@ of_call l s (settle u c) = of_settlement l s u
 of_call l s (set_limit u f ds) = of_limit l u f ds
 of_call l s (close u two d) = of_close l s u two d
 
+-- CLOSED where the monitor is not open
 abbrev pub closed_table : Terms → List (Bool × Refusal)
 closed_table t = (not (is_open t), Closed) ∷ []
 
@@ -79,6 +84,7 @@ verdict t s c = unless (closed_table t) (of_call t.listing s c)
 
 -- ---- what an accepted call answers
 
+-- what a confirmation answers, by the trade on its ticket
 abbrev pub confirm_reply : Ledger → Option Trade → Answer
 confirm_reply s None = Err Ticket
 confirm_reply s (Some d) = transfer_reply s.book d
@@ -97,10 +103,12 @@ number s (close u two d) = pos (charged_at s.terms.listing s.ledger u two d)
 
 -- ---- what an accepted call makes of the ledger
 
+-- the book after a confirmation, by the trade on its ticket
 abbrev pub confirmed : Holding → Option Trade → Holding
 confirmed b None = b
 confirmed b (Some d) = transferred b d
 
+-- what each call makes of the ledger
 abbrev pub effect : Listing → Ledger → Call → Ledger
 effect l s (post e c x) = with_book s (posted s.book e c x)
 effect l s (entry k d) = with_ticket (with_book s (posted s.book d.member d.contract d.change)) k (Some d)
@@ -113,6 +121,7 @@ effect l s (close u two d) = closed l s u two d
 
 -- ---- what an accepted call makes of the marks: limits and covers count here, and nowhere else
 
+-- what each call makes of the marks
 abbrev pub remarked : State → Call → Marks
 remarked s (snapshot u d) = watched (rule_of (round_of d)) s.terms s.ledger.book.at s.marks u d
 remarked s (cure u d) = watched rule.Cure s.terms s.ledger.book.at s.marks u d
@@ -156,10 +165,11 @@ limit_answer s u = if_open s (limit_in (s.ledger.stocks u)) 0
 abbrev pub ban_answer : State → ℕ → Bool
 ban_answer s u = if_open s (s.ledger.stocks u).ban false
 
--- an entity's violated quantity and charge of a stock's last close
+-- an entity's violated quantity of a stock's last close
 abbrev pub violated_answer : State → ℕ → ℕ → ℕ
 violated_answer s u e = if_open s ((s.ledger.stocks u).violated e) 0
 
+-- an entity's charge of a stock's last close
 abbrev pub charge_answer : State → ℕ → ℕ → ℕ
 charge_answer s u e = if_open s ((s.ledger.stocks u).charge e) 0
 

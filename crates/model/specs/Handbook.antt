@@ -1,4 +1,6 @@
 -- The laws: what holds of every run.
+-- Letters: r run, k and j places, s the place at which a ban began; u underlying, d source, a and c covers; e entity, c contract,
+-- m mark, v value.
 use Rattle.std.specs.Prelude.{◌≡◌, ℕ, ◌+◌, ◌<◌, ◌≤◌, true, false, ◌↔◌, List, [], ◌∷◌, take, pos, Some, Ok}
 use Rattle.std.specs.List.{slice_get}
 use Rattle.terms.specs.declared.mark.Mark.{Mark}
@@ -41,6 +43,7 @@ pub data Same (R : Amounts → Amounts → Type 0) : Call → Call → Type 0 wh
   closes : {u : ℕ} {two two' d d' : Source} → EqualSources two two' → EqualSources d d'
       → Same R (close u two d) (close u two' d')
 
+-- two lists of calls that are the same in this way, place by place
 pub data SameCalls (R : Amounts → Amounts → Type 0) : List Call → List Call → Type 0 where
   none : SameCalls R [] []
   more : {c c' : Call} {cs cs' : List Call} → Same R c c' → SameCalls R cs cs' → SameCalls R (c ∷ cs) (c' ∷ cs')

@@ -1,4 +1,5 @@
 -- The index and its day: when a snapshot, a cure and a settlement are declined, and what they leave.
+-- Letters: t terms, l listing, s ledger, q quantities, u underlying, d source, c cover.
 use Rattle.std.specs.Prelude.{ℕ, Bool, not, ◌&&◌, List, [], ◌∷◌, ℤ, is_some, Some, None, Ok, Option}
 use Rattle.terms.specs.declared.kind.Underlying.TheVariants as kind
 use Rattle.terms.specs.declared.refusal.Refusal.{Refusal}
@@ -51,12 +52,15 @@ reading_verdict n q lacks reading price =
     unless_missing (missing n lacks (holds q))
     (unless_too_large (first_below n (λ e. is_too_large (reading e) price)) (Ok tt))
 
+-- the same at a source
 abbrev pub of_reading : Listing → Ledger → ℕ → Source → Verdict
 of_reading l s u d = reading_verdict l.entities s.book.at (lacks_delta l.contracts u d.delta) (reading_at l u d s.book.at) d.price
 
+-- all causes of a snapshot, in order
 abbrev pub of_snapshot : Listing → Ledger → ℕ → Source → Verdict
 of_snapshot l s u d = unless (kind_table l kind.Index u) (unless (snapshot_table (s.days u) d) (of_reading l s u d))
 
+-- all causes of a cure
 abbrev pub of_cure : Listing → Ledger → ℕ → Source → Verdict
 of_cure l s u d = unless (kind_table l kind.Index u) (unless (cure_table (s.days u) d) (of_reading l s u d))
 
@@ -71,16 +75,19 @@ abbrev pub round_in : Option Round → Round
 round_in None = Final
 round_in (Some round) = round
 
+-- what a snapshot at a source is
 abbrev pub round_of : Source → Round
 round_of d = round_in (round_at d.minute)
 
--- the index's day after a snapshot, after a cure, and after a settlement, which clears it
+-- the index's day after a snapshot
 abbrev pub snapped_day : Ledger → ℕ → Source → Ledger
 snapped_day s u d = with_day s u (day_after (round_of d) d.minute (s.days u))
 
+-- the index's day after a cure
 abbrev pub cured_at : Ledger → ℕ → Source → Ledger
 cured_at s u d = with_day s u (cured_day d.minute (s.days u))
 
+-- the index's day after a settlement, which clears it
 abbrev pub cleared_day : Ledger → ℕ → Ledger
 cleared_day s u = with_day s u no_day
 

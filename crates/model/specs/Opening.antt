@@ -30,9 +30,11 @@ pub record Terms : Type 0 where
   pub listing : Listing
   pub limits : Limits
 
+-- what is watched, by its four parts
 abbrev pub listing_from : ℕ → ℕ → List Contract → List Underlying → Listing
 listing_from e n cs us = record { entities = e; places = n; contracts = cs; underlyings = us }
 
+-- that, and the limits
 abbrev pub terms_from : Listing → Limits → Terms
 terms_from l limits = record { listing = l; limits = limits }
 
@@ -40,13 +42,16 @@ terms_from l limits = record { listing = l; limits = limits }
 abbrev pub terms_of : Opening → Terms
 terms_of o = terms_from (listing_from o.book.entities o.book.contracts o.contracts o.underlyings) o.limits
 
+-- what is handed in, by its four parts
 abbrev pub opening_from : Holding → List Contract → List Underlying → Limits → Opening
 opening_from b cs us limits = record { book = b; contracts = cs; underlyings = us; limits = limits }
 
+-- an underlying is a stock
 abbrev pub is_stock : Underlying → Bool
 is_stock Index = false
 is_stock Stock = true
 
+-- a kind is the future
 abbrev pub is_future : Kind → Bool
 is_future Future = true
 is_future Call = false

@@ -9,6 +9,7 @@ use Rattle.model.specs.Opening.{Opening, Listing, terms_of}
 use Rattle.model.specs.State.{Quantities, Ledger, State, opened}
 use Rattle.model.specs.Calls.{Call, post, entry, confirm, close, ticket_at, step}
 
+-- an opening, and the calls after it
 pub record Run : Type 0 where
   pub opening : Opening
   pub calls : List Call
@@ -19,14 +20,17 @@ listing_of r = (terms_of r.opening).listing
 
 -- ---- what a list of calls leaves, and what they are answered
 
+-- what is left once the calls were made, one after the other
 abbrev pub outcome_from : State → List Call → State
 outcome_from s [] = s
 outcome_from s (c ∷ cs) = outcome_from (step s c).1 cs
 
+-- what each of them is answered
 abbrev pub answers_from : State → List Call → List Answer
 answers_from s [] = []
 answers_from s (c ∷ cs) = (step s c).0 ∷ answers_from (step s c).1 cs
 
+-- what a run leaves
 abbrev pub outcome : Run → State
 outcome r = outcome_from (opened r.opening) r.calls
 
@@ -36,6 +40,7 @@ followed_by r cs = record { opening = r.opening; calls = r.calls ++ cs }
 
 -- ---- places
 
+-- what a call leaves, if there is one
 abbrev pub next : State → Option Call → State
 next s None = s
 next s (Some c) = (step s c).1
@@ -53,6 +58,7 @@ after r k = before r (suc k)
 abbrev pub book_at : Run → ℕ → Quantities
 book_at r k = (before r k).ledger.book.at
 
+-- what a call is declined for, if there is one and it is
 abbrev pub refusal_of : State → Option Call → Option Refusal
 refusal_of s None = None
 refusal_of s (Some c) = cause_in (step s c).0
@@ -61,6 +67,7 @@ refusal_of s (Some c) = cause_in (step s c).0
 abbrev pub refusal_at : Run → ℕ → Option Refusal
 refusal_at r k = refusal_of (before r k) (slice_get r.calls k)
 
+-- what a call is answered, if there is one
 abbrev pub answer_of : State → Option Call → Option Answer
 answer_of s None = None
 answer_of s (Some c) = Some (step s c).0
@@ -76,16 +83,19 @@ pub record Accepted (r : Run) (k : ℕ) (c : Call) : Type 0 where
 
 -- ---- the stock and its ban
 
--- base just before and just after the call at place k
+-- base just before the call at place k
 abbrev pub old_base : Run → ℕ → Quantities
 old_base r k = (before r k).ledger.base
 
+-- base just after the call at place k
 abbrev pub new_base : Run → ℕ → Quantities
 new_base r k = (after r k).ledger.base
 
+-- what an entity violates in a stock just after the call at place k
 abbrev pub violated_after : Run → ℕ → ℕ → ℕ → ℕ
 violated_after r k u e = ((after r k).ledger.stocks u).violated e
 
+-- what it is charged then
 abbrev pub charge_after : Run → ℕ → ℕ → ℕ → ℕ
 charge_after r k u e = ((after r k).ledger.stocks u).charge e
 
@@ -115,9 +125,11 @@ Between x y = ((pos 0 ≤ℤ y) × (y ≤ℤ x)) ⊎ ((x ≤ℤ y) × (y ≤ℤ 
 
 -- ---- the pairs that a call posts to
 
+-- two pairs are one
 abbrev pub is_pair : ℕ → ℕ → ℕ → ℕ → Bool
 is_pair e c e' c' = e == e' && c == c'
 
+-- a trade moves the pair: it is the member's or the participant's
 abbrev pub in_trade : Option Trade → ℕ → ℕ → Bool
 in_trade None e c = false
 in_trade (Some d) e c = is_pair e c d.member d.contract || is_pair e c d.participant d.contract

@@ -42,12 +42,15 @@ pub record State : Type 0 where
 
 -- ---- a new monitor: no bans, marks or tickets, and every base quantity at zero
 
+-- a stock with no limit and no ban
 abbrev pub no_stock : Stock
 no_stock = record { limit = None; ban = false; violated = λ e. 0; charge = λ e. 0 }
 
+-- the ledger over a book
 abbrev pub new_ledger : Holding → Ledger
 new_ledger b = record { book = b; base = λ e c. pos 0; tickets = λ k. None; days = λ u. no_day; stocks = λ u. no_stock }
 
+-- the monitor that an opening makes
 abbrev pub opened : Opening → State
 opened o = record { terms = terms_of o; ledger = new_ledger o.book; marks = λ u e m. no_row }
 
@@ -57,11 +60,14 @@ opened o = record { terms = terms_of o; ledger = new_ledger o.book; marks = λ u
 abbrev pub at : {A : Type 0} → ℕ → A → (ℕ → A) → ℕ → A
 at k a f j = cond (j == k) a (f j)
 
+-- the ledger with another book
 abbrev pub with_book : Ledger → Holding → Ledger
 with_book s b = record { book = b; base = s.base; tickets = s.tickets; days = s.days; stocks = s.stocks }
 
+-- the ledger with another trade, or none, on a ticket
 abbrev pub with_ticket : Ledger → ℕ → Option Trade → Ledger
 with_ticket s k d = record { book = s.book; base = s.base; tickets = at k d s.tickets; days = s.days; stocks = s.stocks }
 
+-- the ledger with another day of an index
 abbrev pub with_day : Ledger → ℕ → Day → Ledger
 with_day s u day = record { book = s.book; base = s.base; tickets = s.tickets; days = at u day s.days; stocks = s.stocks }

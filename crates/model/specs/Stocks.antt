@@ -1,4 +1,5 @@
 -- The stock and its ban: what a close finds, and what it leaves.
+-- Letters: l listing, s ledger, u underlying, k stock, two the two o'clock source, d the closing one.
 use Rattle.std.specs.Prelude.{ℕ, Bool, cond, not, ◌&&◌, ◌||◌, List, [], ◌∷◌, ℤ, Some, None, Ok, Option, ◌==◌, is_none, unwrap_or}
 use Rattle.terms.specs.Bounds.{two_minute, close_minute}
 use Rattle.terms.specs.declared.refusal.Refusal.{Refusal}
@@ -38,9 +39,11 @@ delta_verdict n s ban at_two at_close =
     unless_missing (missing n at_close (holds s.book.at))
     (cond ban (unless_missing (missing n at_two (holds_either s.book.at s.base)) (Ok tt)) (Ok tt))
 
+-- the same at two sources
 abbrev pub of_deltas : Listing → Ledger → ℕ → Source → Source → Verdict
 of_deltas l s u two d = delta_verdict l.entities s (s.stocks u).ban (lacks_delta l.contracts u two.delta) (lacks_delta l.contracts u d.delta)
 
+-- all causes of a close, in order
 abbrev pub of_close : Listing → Ledger → ℕ → Source → Source → Verdict
 of_close l s u two d = unless (kind_table l kind.Stock u) (unless (close_table (s.stocks u) two d) (of_deltas l s u two d))
 
@@ -82,10 +85,12 @@ turned n turn w base book price k = record {
   charge = closed_charge n turn w base book price;
 }
 
+-- the stock after a close
 abbrev pub closed_stock : Listing → Ledger → ℕ → Source → Source → Stock
 closed_stock l s u two d =
     turned l.entities (turn_at l s u d) (weights l u two) s.base s.book.at d.price (s.stocks u)
 
+-- the ledger after a close
 abbrev pub closed : Listing → Ledger → ℕ → Source → Source → Ledger
 closed l s u two d = record {
   book = s.book;
@@ -95,9 +100,11 @@ closed l s u two d = record {
   stocks = at u (closed_stock l s u two d) s.stocks;
 }
 
+-- a stock with a market-wide limit
 abbrev pub with_limit : Stock → ℕ → Stock
 with_limit k limit = record { limit = Some limit; ban = k.ban; violated = k.violated; charge = k.charge }
 
+-- the ledger after a limit is set
 abbrev pub limited : Ledger → ℕ → ℕ → Ledger
 limited s u limit = record {
   book = s.book;

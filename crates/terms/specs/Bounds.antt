@@ -5,13 +5,15 @@ use Rattle.std.specs.Prelude.{ℕ}
 abbrev pub quantity_bound : ℕ
 quantity_bound = 1000000000
 
--- the most entities, contracts and underlyings that a monitor watches
+-- the most entities of a monitor
 abbrev pub most_entities : ℕ
 most_entities = 128
 
+-- the most contracts of a monitor
 abbrev pub most_contracts : ℕ
 most_contracts = 32
 
+-- the most underlyings of a monitor
 abbrev pub most_underlyings : ℕ
 most_underlyings = 4
 
@@ -31,9 +33,10 @@ amount_bound = 100000000000000
 abbrev pub price_bound : ℕ
 price_bound = 100000000
 
--- the minute of the two o'clock deltas, and that of a close, from midnight
+-- the minute of the two o'clock deltas, from midnight
 abbrev pub two_minute : ℕ
 two_minute = 840
 
+-- the minute of a close
 abbrev pub close_minute : ℕ
 close_minute = 930

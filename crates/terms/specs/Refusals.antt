@@ -4,6 +4,7 @@ use Rattle.std.specs.Prelude.{ℕ, List, [], ◌++◌, codes, decimal}
 use Rattle.terms.specs.declared.refusal.Refusal.{Refusal}
 use Rattle.terms.specs.declared.refusal.Refusal.TheVariants.{Closed, Underlying, Kind, Unset, Turn, Time, Price, Delta, Value, ShortDay, Input, Ticket, Pair, Size, Full}
 
+-- the number of each cause
 abbrev pub number_of : Refusal → ℕ
 number_of Closed = 10
 number_of Underlying = 1
@@ -21,6 +22,7 @@ number_of Pair = 11
 number_of Size = 12
 number_of Full = 13
 
+-- the name of each cause
 abbrev pub name_of : Refusal → List ℕ
 name_of Closed = codes "CLOSED"
 name_of Underlying = codes "UNDERLYING"
