@@ -1,5 +1,7 @@
 #!/usr/bin/env python3
 """Plays random journals, valid and damaged, through futeq and through tools/reference.py, and stops at the first difference.
+Of each it is asked besides that futeq ends with status 0, answers each line at most once and in order, and is left as the
+accepted lines alone leave it, by what it then answers to every question.
 
 usage: compare.py FUTEQ [JOURNALS [SEED]]
 """
@@ -98,7 +100,7 @@ class Writer:
         r = self.r
         return r.choice([
             f"quantity {e} {c}", f"base {e} {c}", f"limit {u}", f"ban {u}", f"violated {u} {e}", f"charge {u} {e}",
-            f"mark {u} {e} {r.choice(['net-long', 'net-short', 'gross-long', 'gross-short'])}",
+            f"mark {u} {e} {r.choice(MARKS)}",
             f"reading {u} notional", f"reading {u} {self.source(u, 600)}", f"notional {u}"])
 
 
@@ -127,6 +129,61 @@ def journal(r):
     return b"\n".join(lines) + r.choice([b"", b"\n"])
 
 
+MARKS = ["net-long", "net-short", "gross-long", "gross-short"]
+
+# Every question about what the journals may name, and a little more.
+QUESTIONS = [f"ask {q}".encode() for q in
+             [f"{q} {e} {c}" for q in ("quantity", "base") for e in range(7) for c in range(9)]
+             + [f"{q} {u}" for q in ("limit", "ban", "notional") for u in range(5)]
+             + [f"{q} {u} {e}" for q in ("violated", "charge") for u in range(5) for e in range(7)]
+             + [f"mark {u} {e} {m}" for u in range(5) for e in range(7) for m in MARKS]]
+
+
+def play(futeq, data):
+    ran = subprocess.run([futeq], input=data, capture_output=True)
+    if ran.returncode != 0:
+        fail(data, f"it ended with status {ran.returncode}")
+    return ran.stdout
+
+
+def fail(data, what):
+    open("differs.journal", "wb").write(data)
+    sys.exit(f"{what}; the journal is in differs.journal")
+
+
+def answers(data, out):
+    """What each line was answered, by its number."""
+    told = {}
+    for line in out.split(b"\n"):
+        number, _, text = line.partition(b" ")
+        if number.isdigit():
+            if told and int(number) <= max(told):
+                fail(data, f"line {int(number)} is answered out of order, or twice")
+            told[int(number)] = text
+    return told
+
+
+def left(futeq, lines):
+    """What is answered to every question after these lines."""
+    data = b"\n".join(lines + QUESTIONS)
+    told = answers(data, play(futeq, data))
+    return [told.get(len(lines) + 1 + k) for k in range(len(QUESTIONS))]
+
+
+def compare(futeq, data):
+    out, want = play(futeq, data), replay(data).encode()
+    for a, b in zip(out.split(b"\n"), want.split(b"\n")):
+        if a != b:
+            fail(data, f"futeq says {a!r}, and the reference {b!r}")
+    if out != want:
+        fail(data, "one says more than the other")
+    lines = data.split(b"\n")
+    told = answers(data, out)
+    accepted = [line for n, line in enumerate(lines, 1) if not told.get(n, b"").startswith((b"refused", b"malformed"))]
+    if left(futeq, lines) != left(futeq, accepted):
+        fail(data, "the accepted lines alone leave it otherwise")
+
+
 def main():
     futeq = sys.argv[1]
     journals = int(sys.argv[2]) if len(sys.argv) > 2 else 200
@@ -134,19 +191,9 @@ def main():
     lines = 0
     for n in range(seed, seed + journals):
         data = journal(random.Random(n))
-        ran = subprocess.run([futeq], input=data, capture_output=True)
-        want = replay(data).encode()
-        if ran.returncode != 0 or ran.stdout != want:
-            open("differs.journal", "wb").write(data)
-            got, wish = ran.stdout.split(b"\n"), want.split(b"\n")
-            for a, b in zip(got, wish):
-                if a != b:
-                    print("futeq:    ", a.decode(errors="replace"))
-                    print("reference:", b.decode(errors="replace"))
-                    break
-            sys.exit(f"seed {n} differs (status {ran.returncode}); the journal is in differs.journal")
+        compare(futeq, data)
         lines += data.count(b"\n") + 1
-    print(f"{journals} journals, {lines} lines: the same")
+    print(f"{journals} journals, {lines} lines: the same, and as the accepted lines alone leave it")
 
 
 if __name__ == "__main__":
