@@ -49,4 +49,3 @@ limit_facts free daily h =
 -- an accepted limit is within the largest free float
 pub limit_bounded : (free : ℕ) (daily : List ℕ) → is_accepted free daily ≡ true → limit_of free daily ≤ float_most
 limit_bounded free daily h = let f = limit_facts free daily h in omega (arith, f.small)
-
