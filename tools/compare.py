@@ -184,8 +184,17 @@ def compare(futeq, data):
         fail(data, "the accepted lines alone leave it otherwise")
 
 
+def crowded():
+    """One holding more than a journal may have, and a settlement that needs the last of those that it may."""
+    lines = ["book grid 1 1", "underlying index", "contract 0 put", "limits 1000 1000", "open", "post 0 0 200"]
+    lines += [f"{call} 0 published {minute} 10 0:-10000" for minute in (600, 700, 800) for call, minute in (("snapshot", minute), ("cure", minute + 15))]
+    lines += ["snapshot 0 published 900 10 0:-10000"] + ["holding 0 other 1 1"] * 4095 + ["holding 0 equity 1 999", "holding 0 equity 1 1", "settle 0 depository", "report 0 4"]
+    return "\n".join(lines).encode()
+
+
 def main():
     futeq = sys.argv[1]
+    compare(futeq, crowded())
     journals = int(sys.argv[2]) if len(sys.argv) > 2 else 200
     seed = int(sys.argv[3]) if len(sys.argv) > 3 else 1
     lines = 0

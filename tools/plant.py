@@ -214,8 +214,8 @@ def write(path, text):
     os.utime(path, (stamp, stamp))
 
 
-def play(program):
-    """What the gate's input to a program makes of one that is built as it stands, with nothing proved."""
+def played(program):
+    """What the gate's input to a program tells of one that is built as it stands, with nothing proved."""
     home = f"crates/{program}"
     data = [word for path in sorted(glob.glob(f"{home}/data/*")) for word in ("--data", f"{os.path.basename(path)}={os.path.relpath(path, home)}")]
     stdin = open(f"{home}/stdin") if os.path.exists(f"{home}/stdin") else subprocess.DEVNULL
@@ -228,7 +228,10 @@ def play(program):
 
 def check_or_play(crate):
     """The player promises nothing, so only what the programs print can tell."""
-    return check(crate) if crate != "player" else play("checks")
+    if crate != "player":
+        return check(crate)
+    told = [played(program) for program in ("checks", "futeq")]
+    return next((verdict for verdict in told if verdict[0] != "PASSED"), told[0])
 
 
 def planted(crate, changed):
