@@ -196,7 +196,7 @@ def check(crate):
     if ran.returncode == 0:
         return "PROVED", ""
     # A fact is open, or a written answer is one to another fact.
-    for verdict, said in [("refused", "not proved that|did not prove|no proof"), ("refused", "error: .*as printed, the two"),
+    for verdict, said in [("refused", "not proved that|did not prove|no proof"), ("refused", "error: .*, the two (types|values)"),
                           ("unread", r"^src/.*error"), ("gone", "error")]:
         found = [line.strip() for line in lines if re.search(said, line)]
         if found:
