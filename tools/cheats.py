@@ -4,12 +4,14 @@
 usage: cheats.py [WORD]      (only the cheats whose name has the word)
 
 Each cheat is edits of code and of the definition that its contract cites, so that the crate below still checks: only a law
-stands against it. A law that loses its proof may be true still: look whether it is. Where no law fails, the definition alone
-stands against the cheat, and a reader of specs/ must see it. Work in a copy.
+stands against it. A law that loses its proof may be true still: look whether it is. Where no law fails, the worked examples
+are tried; where these hold too, the definition alone stands against the cheat, and a reader of specs/ must see it. Work in a copy.
 """
 import re
 import subprocess
 import sys
+
+from plant import standing, swapped
 
 MARKS, MARK = "crates/index/specs/Marks.antt", "crates/index/src/mark.rt"
 CALLS, JUDGES = "crates/index/specs/Calls.antt", "crates/index/src/calls.rt"
@@ -94,17 +96,11 @@ def main():
     for name, edits in CHEATS.items():
         if word not in name:
             continue
-        kept = {path: open(path).read() for path, _, _ in edits}
+        changed = {}
         for path, old, new in edits:
-            text = open(path).read()
-            assert text.count(old) == 1, (name, old, text.count(old))
-            open(path, "w").write(text.replace(old, new))
-        try:
-            told = said()
-        finally:
-            for path, text in kept.items():
-                open(path, "w").write(text)
-        print(f"{name} | {told}", flush=True)
+            changed[path], _ = swapped(changed.get(path) or open(path).read(), old, new)
+        with standing(changed):
+            print(f"{name} | {said()}", flush=True)
 
 
 if __name__ == "__main__":

@@ -15,6 +15,7 @@ line of a function's body. Verdicts: refused (a fact fails), unread (it doesn't 
 there any more, which tells nothing), PROVED (a contract that is too weak, or no bug at all). Work in a copy: the sources are
 changed and put back. The player has no contracts: its bugs are tried on the gate's journals alone, and are found by test or PASSED.
 """
+import contextlib
 import glob
 import itertools
 import os
@@ -234,16 +235,23 @@ def check_or_play(crate):
     return next((verdict for verdict in told if verdict[0] != "PASSED"), told[0])
 
 
-def planted(crate, changed):
-    """What the check says of a crate with these texts in its files."""
+@contextlib.contextmanager
+def standing(changed):
+    """These texts stand in these files, and the old ones again afterwards."""
     kept = {path: open(path).read() for path in changed}
     try:
         for path, text in changed.items():
             write(path, text)
-        return check_or_play(crate)
+        yield
     finally:
         for path, text in kept.items():
             write(path, text)
+
+
+def planted(crate, changed):
+    """What the check says of a crate with these texts in its files."""
+    with standing(changed):
+        return check_or_play(crate)
 
 
 def tell(out, crate, function, kind, path, line, verdict, old, new):
