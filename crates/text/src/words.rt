@@ -71,12 +71,12 @@ impl<'a> Words<'a> {
         }
     }
 
-    // How many words come before the first that is this name.
-    pub fn count_before(mut self, name: &str) -> usize
+    // How many words come before the first that is this name. One walk, which ends at the name.
+    pub fn count_before(self, name: &str) -> usize
         ensures { result ≡ count_before name.now (to_come self.entry) }
     {
-        let all = self.len();
-        self.position(|word| is(word, name)).unwrap_or(all)
+        let passed = self.take_while(|word| !is(word, name)).count();
+        passed
     }
 }
 
@@ -88,8 +88,13 @@ impl<'a> Iterator for Words<'a> {
 
     ghost remaining = { item_count to_come };
 
+    // At the end of a line the separators that are left go too, so that a further call has nothing to pass over.
     fn next(&mut self) -> Option<&'a [u8]> {
-        let text = &self.rest[first_solid(self.rest)?..];
+        let Some(at) = first_solid(self.rest) else {
+            self.rest = &[];
+            return None;
+        };
+        let text = &self.rest[at..];
         let (word, rest) = text.split_at(solid_len(text));
         self.rest = rest;
         Some(word)
