@@ -28,8 +28,9 @@ pub fn all_are<T: Worded + Drop>(words: Words<'_>, n: usize) -> bool
     words.take(n).all(|word| T::of_word(word).is_some())
 }
 
-// The values of the next words of a line, as far as a number of words goes and up to the first that is none.
-#[derive(Clone, Copy)]
+// The values of the next words of a line, as far as a number of words goes and up to the first that is none. It can be copied whatever
+// the type of its values: none of them is in it.
+#[derive_where(Clone, Copy)]
 pub struct Tail<'a, T> {
     words: Words<'a>,
     // A count, and no `Take`: it goes to 0 where the values end.
