@@ -48,6 +48,10 @@ module _ {V : Type 0} (places : List (Row V)) (n key : ℕ) (fits : n ≤ length
   pub size_is : size before ≡ n
   size_is = len_mapped (take n places) up ∙ length-take-le n places fits
 
+  -- no more keys have a value than may have one
+  pub size_le : size before ≤ before.capacity
+  size_le = rw size_is fits
+
   -- what other places keep, and the table that they make
   pub record Leaves (places' : List (Row V)) (n' : ℕ) (t : Table V) : Type 0 where
     pub room : n' ≤ length places'

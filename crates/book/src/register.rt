@@ -129,9 +129,10 @@ impl<'a, V: Copy> Register<'a, V> {
         self.rows.len()
     }
 
-    // How many keys have a value.
+    // How many keys have a value: no more than may have one, in every register that there is.
     pub fn len(&self) -> usize
-        ensures { result ≡ size self.now }
+        ensures value { result ≡ size self.now }
+        ensures within { size self.now ≤ self.now.capacity }
     {
         self.len
     }
