@@ -34,7 +34,12 @@ impl<'b, 't, B: Book> Monitor<'b, 't, B> {
     pub fn reading<D: Delta>(&self, underlying: usize, source: &D, entity: usize) -> (i64, i64, i64)
         ensures { result ≡ reading_answer (state_of B.Holds.held self.now) underlying (D.answer source.now) entity }
     {
-        self.reading_on(&self.sheet(underlying, source), entity)
+        // Before the sheet is made: a monitor that is not open asks no source.
+        if self.fixed.live {
+            self.reading_on(&self.sheet(underlying, source), entity)
+        } else {
+            (0, 0, 0)
+        }
     }
 
     // The first contract of an underlying that lacks a needed delta, and the first entity that needs it.
