@@ -1,5 +1,5 @@
 -- Sums over the numbers below n: one number more, and how large they are.
-use Rattle.std.proofs.Common.{◌≡◌, ℕ, zero, suc, ◌+◌, ◌*◌, ◌≤◌, map, sum, ℤ, pos, negsuc, ◌-ℤ◌, refl, ap, ap₂, ◌∙◌, add-one, arith}
+use Rattle.std.proofs.Common.{◌≡◌, ℕ, zero, suc, ◌+◌, ◌*◌, ◌≤◌, map, sum, ℤ, pos, negsuc, ◌+ℤ◌, ◌-ℤ◌, nat_abs, refl, ap, ap₂, ◌∙◌, add-one, arith}
 use mathlib.Core.Path.{fun_ext}
 use Rattle.std.specs.List.{range_with_len}
 use Rattle.std.proofs.lemmas.List.Sums.{sum_by-cons}
@@ -32,6 +32,14 @@ sum_listed f n = sum_from f 0 n ∙ ap (sum_below n) (fun_ext (λ i. ap f (omega
 pub sum_small : (f : ℕ → ℕ) (b : ℕ) → ((i : ℕ) → f i ≤ b) → (n : ℕ) → sum_below n f ≤ n * b
 sum_small f b h zero = omega arith
 sum_small f b h (suc n) = omega (arith, sum_small f b h n, h n)
+
+pub total_more : (f : ℕ → ℤ) (n : ℕ) → total_below (n + 1) f ≡ total_below n f +ℤ f n
+total_more f n = rw add-one refl
+
+-- a sum of n integers, none larger in size than b
+pub total_small : (f : ℕ → ℤ) (b : ℕ) → ((i : ℕ) → nat_abs (f i) ≤ b) → (n : ℕ) → nat_abs (total_below n f) ≤ n * b
+total_small f b h zero = omega arith
+total_small f b h (suc n) = omega (arith, ints, total_small f b h n, h n)
 
 -- an integer by its two sides
 pub sides : (z : ℤ) → z ≡ pos (up z) -ℤ pos (down z)

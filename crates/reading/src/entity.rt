@@ -1,6 +1,6 @@
 // What an entity holds, in ten-thousandths of a unit of futures.
 ghost use Rattle.std.specs.Prelude.{◌≡◌, ◌≤◌, unsigned_abs};
-ghost use Rattle.book.specs.Holding.{quantity_of};
+ghost use Rattle.book.specs.Holding.{or_zero, quantity_of};
 ghost use Rattle.delta.specs.Sources.{delta_bound};
 ghost use Rattle.terms.specs.Bounds.{quantity_bound};
 ghost use Rattle.reading.specs.Readings.{part, net, reading_of};
@@ -8,7 +8,6 @@ ghost use Rattle.reading.specs.Views.{weights_of};
 
 use crate::sheet::Sheet;
 use book::position::Holds;
-use std::array;
 use terms::bounds::MOST_CONTRACTS;
 
 // A quantity at a weight.
@@ -21,36 +20,42 @@ fn times(quantity: i64, weight: i32) -> i64
 }
 
 impl Sheet {
-    // A contract's part for an entity. A quantity that weighs nothing is not looked up.
-    fn part<H: Holds>(&self, holder: &H, entity: usize, c: usize) -> i64
-        ensures { result ≡ part (quantity_of (H.held holder.now) entity c) (weights_of self.now c) }
+    // A contract's part for an entity, none where a unit weighs nothing: then the quantity is not looked up.
+    fn part<H: Holds>(&self, holder: &H, entity: usize, c: usize) -> Option<i64>
+        ensures { or_zero result ≡ part (quantity_of (H.held holder.now) entity c) (weights_of self.now c) }
     {
-        let weight = self.weight(c);
-        if weight == 0 {
-            return 0;
+        match self.delta(c) {
+            None | Some(0) => None,
+            Some(weight) => Some(times(holder.quantity(entity, c), weight)),
         }
-        times(holder.quantity(entity, c), weight)
     }
 
     // Net, long and short of an entity.
     pub fn reading<H: Holds>(&self, holder: &H, entity: usize) -> (i64, i64, i64)
         ensures { result ≡ reading_of (weights_of self.now) (quantity_of (H.held holder.now)) entity }
     {
-        // All parts first: then the sums have no branch that hangs on a part's sign, and take several parts at once.
-        let parts: [i64; MOST_CONTRACTS] = array::from_fn(|c| self.part(holder, entity, c));
+        // Two sums, with one test of a part's sign: short is what long is above net.
+        let mut net = 0;
         let mut long = 0;
-        let mut short = 0;
-        for part in parts {
-            long += part.max(0);
-            short += (-part).max(0);
+        for c in 0..MOST_CONTRACTS {
+            if let Some(part) = self.part(holder, entity, c) {
+                net += part;
+                long += part.max(0);
+            }
         }
-        (long - short, long, short)
+        (net, long, long - net)
     }
 
     // Net alone.
     pub fn net<H: Holds>(&self, holder: &H, entity: usize) -> i64
         ensures { result ≡ net (weights_of self.now) (quantity_of (H.held holder.now)) entity }
     {
-        self.reading(holder, entity).0
+        let mut sum = 0;
+        for c in 0..MOST_CONTRACTS {
+            if let Some(part) = self.part(holder, entity, c) {
+                sum += part;
+            }
+        }
+        sum
     }
 }

@@ -31,7 +31,7 @@ impl Sheet {
     }
 
     // What a unit of contract `c` weighs, or none where it lacks a delta.
-    fn delta(&self, c: usize) -> Option<i32>
+    pub(crate) fn delta(&self, c: usize) -> Option<i32>
         ensures { result ≡ deltas_of self.now c }
     {
         self.deltas.get(c).copied().unwrap_or(Some(0))
