@@ -50,12 +50,6 @@ impl Sheet {
     pub fn net<H: Holds>(&self, holder: &H, entity: usize) -> i64
         ensures { result ≡ net (weights_of self.now) (quantity_of (H.held holder.now)) entity }
     {
-        let mut sum = 0;
-        for c in 0..MOST_CONTRACTS {
-            if let Some(part) = self.part(holder, entity, c) {
-                sum += part;
-            }
-        }
-        sum
+        self.reading(holder, entity).0
     }
 }

@@ -7,6 +7,7 @@ ghost use Rattle.text.specs.Words.{to_come};
 ghost use Rattle.tails.specs.Tails.{all_are, each_of, words_left, left_of};
 
 use std::marker::PhantomData;
+use std::sync::atomic::AtomicPtr;
 use text::worded::Worded;
 use text::words::Words;
 
@@ -28,14 +29,15 @@ pub fn all_are<T: Worded + Drop>(words: Words<'_>, n: usize) -> bool
     words.take(n).all(|word| T::of_word(word).is_some())
 }
 
-// The values of the next words of a line, as far as a number of words goes and up to the first that is none. It can be copied whatever
-// the type of its values: none of them is in it.
+// The values of the next words of a line, as far as a number of words goes and up to the first that is none. It can be copied, sent to
+// another thread and lent to one, whatever the type of its values: none of them is in it.
 #[derive_where(Clone, Copy)]
 pub struct Tail<'a, T> {
     words: Words<'a>,
     // A count, and no `Take`: it goes to 0 where the values end.
     left: usize,
-    of: PhantomData<T>,
+    // The type of a pointer, which goes to another thread whatever it points to.
+    of: PhantomData<AtomicPtr<T>>,
 }
 
 impl<'a, T: Worded> Tail<'a, T> {
